@@ -1,0 +1,22 @@
+-- All that specs/Demands states. Assumes nothing.
+use Rattle.bitml.specs.Demands.{Demands}
+use Rattle.bitml.proofs.Trees.{exit-is-tree}
+use Rattle.bitml.proofs.Exits.{ranked-exit, exit-ranked}
+use Rattle.bitml.proofs.Best.{rank-is-best}
+use Rattle.bitml.proofs.Reach.{reached-sound, reached-complete}
+use Rattle.bitml.proofs.Checked.{check-is-accepted}
+use Rattle.bitml.proofs.Published.{make-is, published}
+use Rattle.bitml.proofs.Liquidity.{liquidity}
+
+pub demands : Demands
+demands =
+    record {
+      exit-is-tree = exit-is-tree;
+      rank-is-exit = λ s wf p n. (ranked-exit s wf p n, exit-ranked s wf p n);
+      rank-is-best = rank-is-best;
+      reached-is-run = λ s wf n. (reached-sound s n, reached-complete s wf n);
+      verdict = λ s wf p. make-is s p wf;
+      check-is-accepted = check-is-accepted;
+      liquidity = liquidity;
+      published = λ s wf p. published s p wf;
+    }

@@ -1,0 +1,16 @@
+pub mod Lists
+pub mod Actions
+pub mod Exits
+pub mod Trees
+pub mod Best
+pub mod Reach
+pub mod Ways
+pub mod Commitments
+pub mod Invariant
+pub mod Leaving
+pub mod Liquidity
+pub mod Checked
+pub mod Published
+pub mod Demands
+pub mod Stars
+pub mod Formed

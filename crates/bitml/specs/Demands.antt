@@ -1,0 +1,53 @@
+-- What is proved of the definitions: the verdict over runs, the check of rows, and demand 3. Assumes nothing.
+use mathlib.Core.Path.{_≡_}
+use mathlib.Core.Logic.{_↔_, _⊎_}
+use Prim.Native.Nat.{ℕ, suc, _≤_, _<_}
+use mathlib.Core.Bool.{true}
+use mathlib.Core.List.{List, map}
+use lib.ListN.{length}
+use Rattle.bitml.specs.Lists.{sum, All}
+use Rattle.bitml.specs.Sheet.{Sheet, branchesAt, branchAt, parts}
+use Rattle.bitml.specs.Runs.{Reached, own, Exit, ExitTree, Liquid}
+use Rattle.bitml.specs.Rows.{Row, Accepted, check}
+use Rattle.bitml.specs.Rule.{choiceAt, rankAt, reached, rows, liquid, frozen, make}
+use Rattle.bitml.specs.Promises.{WellFormed}
+use Rattle.bitml.specs.Liquidity.{Liquidity}
+
+-- "the lowest reached node with no exit"
+pub record Frozen (s : Sheet) (p n : ℕ) : Type 0 where
+  pub reach : Reached s n
+  pub no-exit : Exit s p n → ⊥
+  pub lowest : (m : ℕ) → m < n → Reached s m → Exit s p m
+
+-- Branch b of node n is own to p, and its contracts all have exits
+pub record Serves (s : Sheet) (p n b : ℕ) : Type 0 where
+  pub there : b < length (branchesAt s n)
+  pub mine : own s p n (branchAt s n b) ≡ true
+  pub exits : All (Exit s p) (parts (branchAt s n b .action))
+
+-- 1 + the sum of the ranks of the contracts in branch b
+abbrev pub costBy : Sheet → ℕ → ℕ → ℕ → ℕ
+costBy s p n b = suc (sum (map (rankAt s p) (parts (branchAt s n b .action))))
+
+-- "rank is the least such number over own branches whose contracts all have exits, branch the lowest with that rank"
+pub record Best (s : Sheet) (p n : ℕ) : Type 0 where
+  pub serves : Serves s p n (choiceAt s p n .branch)
+  pub rank : rankAt s p n ≡ costBy s p n (choiceAt s p n .branch)
+  pub least : (b : ℕ) → Serves s p n b → rankAt s p n ≤ costBy s p n b
+  pub lowest : (b : ℕ) → Serves s p n b → b < choiceAt s p n .branch → rankAt s p n < costBy s p n b
+
+pub record Demands : Type 0 where
+  -- An exit by runs is one by trees
+  pub exit-is-tree : (s : Sheet) (p n : ℕ) → Exit s p n ↔ ExitTree s p n
+  -- A rank is nonzero exactly where the node has an exit by runs; and then it is the published one
+  pub rank-is-exit : (s : Sheet) → WellFormed s → (p n : ℕ) → (0 < rankAt s p n) ↔ Exit s p n
+  pub rank-is-best : (s : Sheet) → WellFormed s → (p n : ℕ) → Exit s p n → Best s p n
+  -- Computed reached nodes are those of runs
+  pub reached-is-run : (s : Sheet) → WellFormed s → (n : ℕ) → (reached s n ≡ true) ↔ Reached s n
+  -- `make` answers liquid exactly when every reached node has an exit, else the lowest that has none
+  pub verdict : (s : Sheet) → WellFormed s → (p : ℕ) → ((make s p ≡ liquid (rows s p)) × Liquid s p) ⊎ ((n : ℕ) × (make s p ≡ frozen n) × Frozen s p n)
+  -- `check` answers 0 exactly for accepted rows
+  pub check-is-accepted : (s : Sheet) (p : ℕ) (R : List Row) → (check s p R .number ≡ 0) ↔ Accepted s p R
+  -- DEMAND 3, both halves: the claim over every list of events; and on a liquid sheet `make` gives the published rows, which `check` accepts
+  pub liquidity : Liquidity
+  pub published : (s : Sheet) → WellFormed s → (p : ℕ) → Liquid s p → (make s p ≡ liquid (rows s p)) × (check s p (rows s p) .number ≡ 0)

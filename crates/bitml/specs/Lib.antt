@@ -1,0 +1,12 @@
+-- What must be believed: one module for each section of document 01, and the statements that are proved of them.
+pub mod Lists
+pub mod Sheet
+pub mod Runs
+pub mod Rows
+pub mod Rule
+pub mod Ledger
+pub mod Limits
+pub mod Promises
+pub mod Liquidity
+pub mod Demands
+pub mod Stars

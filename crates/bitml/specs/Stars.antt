@@ -1,0 +1,162 @@
+-- "Sheets tried by hand": the starred cases over the definitions, with some of the refusal table's, as one list. Assumes nothing.
+use mathlib.Core.Path.{_≡_}
+use Prim.Native.Nat.{ℕ, zero, suc, _+_}
+use mathlib.Core.Bool.{cond}
+use mathlib.Core.Option.{Option, none}
+use mathlib.Core.Option.{some as the}
+use mathlib.Core.List.{List, [], _∷_, _++_, map}
+use lib.ListN.{length}
+use Rattle.bitml.specs.Lists.{sum, All}
+use Rattle.bitml.specs.Sheet.{Sheet, Node, Branch, Action, withdraw, split, reveal, renewAs, always, defAt}
+use Rattle.bitml.specs.Rows.{Row, rankOf, check}
+use Rattle.bitml.specs.Rule.{Verdict, liquid, frozen, make}
+use Rattle.bitml.specs.Ledger.{Ledger, Event, wait, sign, tell, fire, renew, stipulated}
+use Rattle.bitml.specs.Limits.{answers, limitedPlay}
+use Rattle.bitml.specs.Promises.{WellFormed}
+
+-- ---- requests, and the lines that answer them
+
+pub data Request : Type 0 where
+  making : Sheet → ℕ → Request
+  checking : Sheet → ℕ → List Row → Request
+  playing : Sheet → List (Option ℕ) → List Event → Request
+
+pub data Line : Type 0 where
+  rowLine : Row → Line
+  liquidLine : ℕ → ℕ → ℕ → Line
+  frozenLine : ℕ → ℕ → Line
+  refusedLine : ℕ → ℕ → ℕ → Line
+  takenLine : Line
+  endLine : ℕ → ℕ → List ℕ → Line
+
+-- "`liquid` has participant, rows, rank of node 0": node 0 is the root of definition 0
+unfoldable pub liquidBy : Sheet → ℕ → List Row → Line
+liquidBy s p R = liquidLine p (length R) (rankOf R (defAt s 0 .root))
+
+unfoldable pub madeLines : Sheet → ℕ → Verdict → List Line
+madeLines s p (liquid R) = map rowLine R ++ (liquidBy s p R ∷ [])
+madeLines s p (frozen n) = frozenLine p n ∷ []
+
+-- The line that answers line k of the request: refused by a number, or good
+unfoldable pub orRefused : ℕ → ℕ → Line → Line
+orRefused k zero good = good
+orRefused k (suc n) good = refusedLine (suc n) k 0
+
+-- The answers ns to the events from line k on; "play goes on" behind a refusal
+unfoldable pub eventLines : ℕ → List ℕ → List Line
+eventLines k [] = []
+eventLines k (n ∷ ns) = orRefused k n takenLine ∷ eventLines (suc k) ns
+
+-- "`end`,500,0,0,100 (time, live contracts, paid by participant)"
+unfoldable pub endOf : Ledger → Line
+endOf l = endLine (l .time) (sum (map (λ c. cond (c .alive) 1 0) (l .contracts))) (l .paid)
+
+unfoldable pub playLines : Sheet → Ledger → ℕ → List Event → List Line
+playLines s l k es = eventLines k (answers s l es) ++ (endOf (limitedPlay s l es) ∷ [])
+
+-- The last part's word stands on the line behind the `def` lines
+unfoldable pub answer : Request → List Line
+answer (making s p) = madeLines s p (make s p)
+answer (checking s p R) = orRefused (length (s .defs) + 2 + check s p R .place) (check s p R .number) (liquidBy s p R) ∷ []
+answer (playing s vs es) = playLines s (stipulated s vs) (length (s .defs) + 3) es
+
+-- ---- the sheets, with K = 2 and one definition
+
+unfoldable pub branch : ℕ → ℕ → Action → Branch
+branch m t a = record { signers = m; opens = t; action = a }
+
+unfoldable pub node : List Branch → Node
+node bs = record { definition = 0; branches = bs }
+
+unfoldable pub halves : ℕ → ℕ → Action
+halves m n = split (record { weight = 1; node = m } ∷ record { weight = 1; node = n } ∷ [])
+
+unfoldable pub row : ℕ → ℕ → ℕ → Row
+row n b k = record { node = n; branch = b; rank = k }
+
+unfoldable pub sheet : List ℕ → List ℕ → List Node → Sheet
+sheet ds os ns = record { participants = 2; defs = record { deposits = ds; owners = os; root = 0 } ∷ []; nodes = ns }
+
+unfoldable pub T : Sheet
+T =
+    sheet (100 ∷ 0 ∷ []) (0 ∷ [])
+    (node (branch 0 0 (reveal (0 ∷ []) always 1) ∷ branch 0 500 (withdraw 1) ∷ []) ∷ node (branch 0 0 (withdraw 0) ∷ []) ∷ [])
+
+unfoldable pub M : Sheet
+M =
+    sheet (1 ∷ 1 ∷ []) (0 ∷ 1 ∷ [])
+    (node (branch 0 0 (reveal (0 ∷ []) always 1) ∷ branch 0 500 (withdraw 1) ∷ [])
+    ∷ node (branch 0 0 (reveal (1 ∷ []) always 2) ∷ [])
+    ∷ node (branch 0 0 (halves 3 4) ∷ [])
+    ∷ node (branch 0 0 (withdraw 0) ∷ [])
+    ∷ node (branch 0 0 (withdraw 1) ∷ []) ∷ [])
+
+unfoldable pub D : Sheet
+D = sheet (1 ∷ 1 ∷ []) [] (node (branch 3 0 (withdraw 0) ∷ branch 3 0 (withdraw 1) ∷ []) ∷ [])
+
+unfoldable pub R : Sheet
+R =
+    sheet (1 ∷ 0 ∷ []) (0 ∷ [])
+    (node (branch 0 0 (renewAs 0) ∷ branch 0 0 (reveal (0 ∷ []) always 1) ∷ branch 0 500 (withdraw 1) ∷ [])
+    ∷ node (branch 0 0 (withdraw 0) ∷ []) ∷ [])
+
+-- "balance 7, weights 1 and 1"
+unfoldable pub Seven : Sheet
+Seven = sheet (7 ∷ 0 ∷ []) [] (node (branch 0 0 (halves 1 2) ∷ []) ∷ node (branch 0 0 (withdraw 0) ∷ []) ∷ node (branch 0 0 (withdraw 1) ∷ []) ∷ [])
+
+-- ---- the list
+
+abbrev pub Case : Type 0
+Case = Request × List Line
+
+unfoldable pub cases : List Case
+cases =
+    -- ★1 to ★5
+    (making T 0, rowLine (row 0 1 1) ∷ rowLine (row 1 0 1) ∷ liquidLine 0 2 1 ∷ [])
+    ∷ (checking T 0 (row 1 0 1 ∷ row 0 0 2 ∷ []), liquidLine 0 2 2 ∷ [])
+    ∷ (checking T 0 (row 1 0 1 ∷ row 0 0 1 ∷ []), refusedLine 13 5 0 ∷ [])
+    ∷ (checking T 1 (row 0 0 2 ∷ row 1 0 1 ∷ []), refusedLine 12 4 0 ∷ [])
+    ∷ (checking T 0 (row 0 1 1 ∷ []), refusedLine 11 4 0 ∷ [])
+    -- ★6 and ★7
+    ∷ (making M 0, frozenLine 0 1 ∷ [])
+    ∷ (
+      making M 1,
+      rowLine (row 0 1 1) ∷ rowLine (row 1 0 4) ∷ rowLine (row 2 0 3) ∷ rowLine (row 3 0 1) ∷ rowLine (row 4 0 1) ∷ liquidLine 1 5 1 ∷ [],
+    )
+    -- ★8, for both
+    ∷ (making D 0, frozenLine 0 0 ∷ [])
+    ∷ (making D 1, frozenLine 1 0 ∷ [])
+    -- ★9
+    ∷ (making R 0, rowLine (row 0 2 1) ∷ rowLine (row 1 0 1) ∷ liquidLine 0 2 1 ∷ [])
+    -- ★10
+    ∷ (
+      playing T (none ∷ []) (wait 499 ∷ fire 0 1 ∷ wait 1 ∷ fire 0 1 ∷ []),
+      takenLine ∷ refusedLine 15 5 0 ∷ takenLine ∷ takenLine ∷ endLine 500 0 (0 ∷ 100 ∷ []) ∷ [],
+    )
+    -- 10, 11, 14, 16, 17 and 19 as in the table of refusals
+    ∷ (checking T 0 (row 0 1 1 ∷ row 0 1 1 ∷ []), refusedLine 10 5 0 ∷ [])
+    ∷ (checking T 0 [], refusedLine 11 3 0 ∷ [])
+    ∷ (
+      playing D [] (fire 9 0 ∷ fire 0 0 ∷ sign 0 0 0 ∷ sign 0 0 0 ∷ sign 1 0 0 ∷ fire 0 0 ∷ []),
+      refusedLine 14 4 0 ∷ refusedLine 16 5 0 ∷ takenLine ∷ refusedLine 16 7 0 ∷ takenLine ∷ takenLine ∷ endLine 0 0 (2 ∷ 0 ∷ []) ∷ [],
+    )
+    ∷ (
+      playing T (none ∷ []) (tell 0 0 ∷ wait 4294967295 ∷ wait 1 ∷ []),
+      refusedLine 17 4 0 ∷ takenLine ∷ refusedLine 19 6 0 ∷ endLine 4294967295 1 (0 ∷ 0 ∷ []) ∷ [],
+    )
+    -- 18; a told secret of set 0 does not serve the renewed contract, which has the deposits of both
+    ∷ (
+      playing R (the 7 ∷ []) (renew 0 0 [] ∷ tell 0 0 ∷ renew 0 0 (the 8 ∷ []) ∷ fire 1 1 ∷ tell 1 0 ∷ fire 1 1 ∷ fire 2 0 ∷ []),
+      refusedLine 18 4 0 ∷ takenLine ∷ takenLine ∷ refusedLine 17 7 0 ∷ takenLine ∷ takenLine ∷ takenLine ∷ endLine 0 0 (2 ∷ 0 ∷ []) ∷ [],
+    )
+    -- 3 and 4
+    ∷ (playing Seven [] (fire 0 0 ∷ fire 1 0 ∷ fire 2 0 ∷ []), takenLine ∷ takenLine ∷ takenLine ∷ endLine 0 0 (3 ∷ 4 ∷ []) ∷ [])
+    ∷ []
+
+-- THE PROPOSITION: each request of the list gets its lines
+unfoldable pub Stars : Type 0
+Stars = All (λ (c : Case). answer (c .0) ≡ c .1) cases
+
+-- The sheets keep the promises, so that what is proved of such sheets speaks of them
+unfoldable pub Promised : Type 0
+Promised = All WellFormed (T ∷ M ∷ D ∷ R ∷ Seven ∷ [])

@@ -14,3 +14,5 @@ pub mod Published
 pub mod Demands
 pub mod Stars
 pub mod Formed
+pub mod Bound
+pub mod Counting

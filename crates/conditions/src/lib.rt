@@ -1,0 +1,202 @@
+// Conditions and expressions, read into cells of the table that the caller lends.
+use steps::Read;
+use steps::letters;
+use steps::num;
+use tables::Sheet;
+use tables::St;
+use tables::is_listed;
+use tables::put_cell;
+ghost use mathlib.Core.Path.{_≡_};
+ghost use Prim.Native.Nat.{_≤_, _<_};
+ghost use lib.ListN.{length};
+ghost use Rattle.tables.specs.State.{stateOf, Fits};
+ghost use Rattle.steps.specs.Steps.{Met, twice};
+ghost use Rattle.conditions.specs.Words.{conditionCell, expressionCell};
+ghost use Rattle.conditions.specs.Condition.{storeAt, constantAt, secretAt, expressionAt, conditionAt, Ready, Stored, Kept};
+
+// The words, as numbers in base 256.
+const T: usize = b't' as usize;
+
+const AND: usize = (b'a' as usize * 256 + b'n' as usize) * 256 + b'd' as usize;
+
+const NOT: usize = (b'n' as usize * 256 + b'o' as usize) * 256 + b't' as usize;
+
+const EQ: usize = b'e' as usize * 256 + b'q' as usize;
+
+const LT: usize = b'l' as usize * 256 + b't' as usize;
+
+const K: usize = b'k' as usize;
+
+const V: usize = b'v' as usize;
+
+const ADD: usize = (b'a' as usize * 256 + b'd' as usize) * 256 + b'd' as usize;
+
+const SUB: usize = (b's' as usize * 256 + b'u' as usize) * 256 + b'b' as usize;
+
+// The cell of no word.
+const NONE: usize = 5;
+
+fn condition_cell(w: usize) -> usize
+    ensures { λ r. ⌜ r ≡ conditionCell w ⌝ }
+{
+    match w {
+        T => Sheet::T,
+        AND => Sheet::AND,
+        NOT => Sheet::NOT,
+        EQ => Sheet::EQ,
+        LT => Sheet::LT,
+        _ => NONE,
+    }
+}
+
+fn expression_cell(w: usize) -> usize
+    ensures { λ r. ⌜ r ≡ expressionCell w ⌝ }
+{
+    match w {
+        K => Sheet::K,
+        V => Sheet::V,
+        ADD => Sheet::ADD,
+        SUB => Sheet::SUB,
+        _ => NONE,
+    }
+}
+
+// A cell more for the field at p, unless the cells have come to the limit.
+fn store(st: St, p: usize, limit: usize, v: usize, t: &mut [usize]) -> Read
+    requires { ⌜ 52072 ≤ length (now t) ⌝ }
+    requires { ⌜ Fits st ⌝ }
+    requires { ⌜ st .cells < 32768 ⌝ }
+    ensures { λ r. ⌜ Met (Stored limit st) (storeAt limit p v (stateOf st (now (t .entry)))) r (now (t .exit)) ⌝ }
+{
+    if limit <= st.cells {
+        return Read::Bad(7, p);
+    }
+    let next = put_cell(t, st, v);
+    Read::Value(0, next)
+}
+
+// The number of a `k`.
+fn constant(s: &[u8], st: St, limit: usize, t: &mut [usize]) -> Read
+    requires { ⌜ 52072 ≤ length (now t) ⌝ }
+    requires { ⌜ Ready (now s) st ⌝ }
+    ensures { λ r. ⌜ Met (Kept (now (s .entry)) limit st) (constantAt (now (s .entry)) limit (stateOf st (now (t .entry)))) r (now (t .exit)) ⌝ }
+{
+    let g = num(s, st, Sheet::CONSTANT);
+    let Read::Value(v, e) = g else {
+        return g;
+    };
+    store(e, st.at, limit, v, t)
+}
+
+// The secret of a `v`, one of those listed from `from` on.
+fn secret(s: &[u8], st: St, limit: usize, from: usize, t: &mut [usize]) -> Read
+    requires { ⌜ 52072 ≤ length (now t) ⌝ }
+    requires { ⌜ Ready (now s) st ⌝ }
+    ensures { λ r. ⌜ Met (Kept (now (s .entry)) limit st) (secretAt (now (s .entry)) limit from (stateOf st (now (t .entry)))) r (now (t .exit)) ⌝ }
+{
+    let g = num(s, st, Sheet::NUMBER);
+    let Read::Value(v, e) = g else {
+        return g;
+    };
+    let to = e.listed;
+    let there = is_listed(t, from, to, v);
+    if there {
+        return store(e, st.at, limit, v, t);
+    }
+    Read::Bad(6, st.at)
+}
+
+// An expression, with so many words left to nest.
+fn expression(s: &[u8], st: St, depth: usize, limit: usize, from: usize, t: &mut [usize]) -> Read
+    requires { ⌜ 52072 ≤ length (now t) ⌝ }
+    requires { ⌜ Ready (now s) st ⌝ }
+    ensures { λ r. ⌜ Met (Kept (now (s .entry)) limit st) (expressionAt (now (s .entry)) limit from depth (stateOf st (now (t .entry)))) r (now (t .exit)) ⌝ }
+{
+    let g = letters(s, st);
+    let Read::Value(w, e) = g else {
+        return g;
+    };
+    let c = expression_cell(w);
+    if c == NONE {
+        return Read::Bad(3, st.at);
+    }
+    if depth == 0 {
+        return Read::Bad(7, st.at);
+    }
+    let h = store(e, st.at, limit, c, t);
+    let Read::Value(_, f) = h else {
+        return h;
+    };
+    match c {
+        Sheet::K => constant(s, f, limit, t),
+        Sheet::V => secret(s, f, limit, from, t),
+        _ => both_expressions(s, f, depth - 1, limit, from, t),
+    }
+}
+
+fn both_expressions(
+    s: &[u8],
+    st: St,
+    depth: usize,
+    limit: usize,
+    from: usize,
+    t: &mut [usize],
+) -> Read
+    requires { ⌜ 52072 ≤ length (now t) ⌝ }
+    requires { ⌜ Ready (now s) st ⌝ }
+    ensures { λ r. ⌜ Met (Kept (now (s .entry)) limit st) (twice (expressionAt (now (s .entry)) limit from depth) (stateOf st (now (t .entry)))) r (now (t .exit)) ⌝ }
+{
+    let g = expression(s, st, depth, limit, from, t);
+    let Read::Value(_, e) = g else {
+        return g;
+    };
+    expression(s, e, depth, limit, from, t)
+}
+
+// A condition, with so many words left to nest.
+pub fn condition(s: &[u8], st: St, depth: usize, limit: usize, from: usize, t: &mut [usize]) -> Read
+    requires { ⌜ 52072 ≤ length (now t) ⌝ }
+    requires { ⌜ Ready (now s) st ⌝ }
+    ensures { λ r. ⌜ Met (Kept (now (s .entry)) limit st) (conditionAt (now (s .entry)) limit from depth (stateOf st (now (t .entry)))) r (now (t .exit)) ⌝ }
+{
+    let g = letters(s, st);
+    let Read::Value(w, e) = g else {
+        return g;
+    };
+    let c = condition_cell(w);
+    if c == NONE {
+        return Read::Bad(3, st.at);
+    }
+    if depth == 0 {
+        return Read::Bad(7, st.at);
+    }
+    let h = store(e, st.at, limit, c, t);
+    let Read::Value(_, f) = h else {
+        return h;
+    };
+    match c {
+        Sheet::T => Read::Value(0, f),
+        Sheet::AND => both_conditions(s, f, depth - 1, limit, from, t),
+        Sheet::NOT => condition(s, f, depth - 1, limit, from, t),
+        _ => both_expressions(s, f, depth - 1, limit, from, t),
+    }
+}
+
+fn both_conditions(
+    s: &[u8],
+    st: St,
+    depth: usize,
+    limit: usize,
+    from: usize,
+    t: &mut [usize],
+) -> Read
+    requires { ⌜ 52072 ≤ length (now t) ⌝ }
+    requires { ⌜ Ready (now s) st ⌝ }
+    ensures { λ r. ⌜ Met (Kept (now (s .entry)) limit st) (twice (conditionAt (now (s .entry)) limit from depth) (stateOf st (now (t .entry)))) r (now (t .exit)) ⌝ }
+{
+    let g = condition(s, st, depth, limit, from, t);
+    let Read::Value(_, e) = g else {
+        return g;
+    };
+    condition(s, e, depth, limit, from, t)
+}

@@ -1,0 +1,49 @@
+use borrow.Author.Needs.{needs}
+use Rattle.events.specs.Events.{pairAt}
+use Rattle.fields.specs.Field.{after}
+use Rattle.events.proofs.pair_at.Statement.{statement}
+use Rattle.events.proofs.pair_at.Tie as tie
+
+number-requires : tie.Need-number-requires
+number-requires c κs = search needs
+
+enum-known-g : tie.Need-enum-known-g
+enum-known-g c = search needs
+
+number-requires-2 : tie.Need-number-requires-2
+number-requires-2 c κs = search needs
+
+enum-known-h : tie.Need-enum-known-h
+enum-known-h c = search needs
+
+enum-known-h-2 : tie.Need-enum-known-h-2
+enum-known-h-2 c = search needs
+
+enum-known-g-2 : tie.Need-enum-known-g-2
+enum-known-g-2 c = search needs
+
+returns : tie.Need-returns
+unfolding pairAt after
+returns c = rw (← c .before .before .before .before .before .before .before .number .ensures, c .before .before .before .before .before .g .given .1, ← c .before .before .before .number2 .ensures, c .before .h .given .1)
+
+returns-2 : tie.Need-returns-2
+unfolding pairAt after
+returns-2 c = rw (← c .before .before .before .before .before .before .before .number .ensures, c .before .before .before .before .before .g .given .1, ← c .before .before .before .number2 .ensures, c .before .h2 .given .1)
+
+returns-3 : tie.Need-returns-3
+unfolding pairAt after
+returns-3 c = rw (← c .before .before .before .number .ensures, c .before .g2 .given .1)
+
+pub pair-at-spec : {M : Type 1} → statement M
+pair-at-spec =
+    tie.close
+    (tie.spec
+    number-requires
+    enum-known-g
+    number-requires-2
+    enum-known-h
+    enum-known-h-2
+    enum-known-g-2
+    returns
+    returns-2
+    returns-3)

@@ -1,0 +1,160 @@
+-- Laws of the definitions: what one byte more does.
+use Prim.Native.Nat.{ℕ, zero, suc, _+_, _-_, _*_, _<_, _≤_, _^_}
+use mathlib.Core.Path.{_≡_, refl, ap, sym, _∙_}
+use mathlib.Core.List.{List, [], _∷_}
+use mathlib.Core.Bool.{Bool, true, false, cond, _&&_, _||_}
+use native.Mathlib.Nat.{pow-suc, pow-le-pow-right, lt-of-lt-of-le, add-sub-cancel-left}
+use native.Mathlib.Numerals.{add-one}
+use native.Mathlib.Omega.{arith}
+use lib.ListN.{length, getD, take, drop, drop-of-length-le, length-drop, length-take}
+use lib.Seq.{drop-cons}
+use lib.Dec.{ltb, leb, eqb, lit<}
+use borrow.Author.Tests.{eq-eqb, ne-eqb, le-leb, lt-leb, lt-ltb, leb-true, ltb-true}
+use Rattle.fields.specs.Field.{comma, lf, zeroDigit, nineDigit, isSep, fieldLen, allDigits, value, numberOf, numberAt, afterComma, upTo, textAt, endAt, packed, packedOf, wordFrom, wordAt}
+use Rattle.fields.specs.declared.Num.{Num}
+use Rattle.fields.specs.declared.Num.the-variants.{Is, Not}
+use Rattle.fields.specs.declared.Got.{Got}
+use Rattle.fields.specs.declared.Got.the-variants.{Value, Bad}
+
+module _ (s : List ℕ) (i : ℕ) where
+  pub fieldLen-end : length s ≤ i → fieldLen (drop i s) ≡ 0
+  unfolding fieldLen
+  fieldLen-end h = rw drop-of-length-le
+
+  pub fieldLen-comma : i < length s → getD s i 0 ≡ comma → fieldLen (drop i s) ≡ 0
+  unfolding fieldLen
+  fieldLen-comma h e = rw (drop-cons s i 0, eq-eqb _ _ e)
+
+  pub fieldLen-lf : i < length s → getD s i 0 ≡ lf → fieldLen (drop i s) ≡ 0
+  unfolding fieldLen
+  fieldLen-lf h e = rw (drop-cons s i 0, e)
+
+  pub fieldLen-more : i < length s → (getD s i 0 ≡ comma → ⊥) → (getD s i 0 ≡ lf → ⊥) → fieldLen (drop i s) ≡ suc (fieldLen (drop (i + 1) s))
+  unfolding fieldLen
+  fieldLen-more h e f = rw (add-one, drop-cons s i 0, ne-eqb _ _ e, ne-eqb _ _ f)
+
+  pub digits-end : length s ≤ i → allDigits (drop i s) ≡ true
+  unfolding allDigits
+  digits-end h = rw drop-of-length-le
+
+  pub digits-below : i < length s → getD s i 0 < zeroDigit → allDigits (drop i s) ≡ false
+  unfolding allDigits
+  digits-below h e = rw (drop-cons s i 0, lt-leb _ _ e)
+
+  pub digits-above : i < length s → zeroDigit ≤ getD s i 0 → nineDigit < getD s i 0 → allDigits (drop i s) ≡ false
+  unfolding allDigits
+  digits-above h f e = rw (drop-cons s i 0, le-leb _ _ f, lt-leb _ _ e)
+
+  pub digits-more : i < length s → zeroDigit ≤ getD s i 0 → getD s i 0 ≤ nineDigit → allDigits (drop i s) ≡ allDigits (drop (i + 1) s)
+  unfolding allDigits
+  digits-more h f e = rw (add-one, drop-cons s i 0, le-leb _ _ f, le-leb _ _ e)
+
+  pub value-end : (v : ℕ) → length s ≤ i → value v (drop i s) ≡ v
+  unfolding value
+  value-end v h = rw drop-of-length-le
+
+  pub value-more : (v : ℕ) → i < length s → value v (drop i s) ≡ value (v * 10 + (getD s i 0 - zeroDigit)) (drop (i + 1) s)
+  unfolding value
+  value-more v h = rw (add-one, drop-cons s i 0)
+
+pub packed-end : (s : List ℕ) (i v : ℕ) → length s ≤ i → packed v (drop i s) ≡ v
+unfolding packed
+packed-end s i v h = rw drop-of-length-le
+
+pub packed-more : (s : List ℕ) (i v : ℕ) → i < length s → packed v (drop i s) ≡ packed (v * 256 + getD s i 0) (drop (i + 1) s)
+unfolding packed
+packed-more s i v h = rw (add-one, drop-cons s i 0)
+
+pub byte-more : {v d : ℕ} (i : ℕ) → v < 256 ^ i → d < 256 → v * 256 + d < 256 ^ (i + 1)
+byte-more i h k = rw (add-one, pow-suc) (omega arith)
+
+pub byte-below : {v i : ℕ} → v < 256 ^ i → i ≤ 6 → v < 256 ^ 6
+byte-below h k = lt-of-lt-of-le h (pow-le-pow-right (lit< tt) k)
+
+pub ten-more : {v d : ℕ} (i : ℕ) → v < 10 ^ i → d ≤ 9 → v * 10 + d < 10 ^ (i + 1)
+ten-more i h k = rw (add-one, pow-suc) (omega arith)
+
+pub ten-below : {v i : ℕ} → v < 10 ^ i → i ≤ 18 → v < 10 ^ 18
+ten-below h k = lt-of-lt-of-le h (pow-le-pow-right (lit< tt) k)
+
+pub fieldLen-le : (r : List ℕ) → fieldLen r ≤ length r
+unfolding fieldLen
+fieldLen-le [] = omega arith
+fieldLen-le (b ∷ r) = pick (isSep b) (fieldLen-le r)
+  where
+    pick : (t : Bool) → fieldLen r ≤ length r → cond t 0 (suc (fieldLen r)) ≤ suc (length r)
+    pick true h = omega arith
+    pick false h = omega arith
+
+pub end-within : (s : List ℕ) (p : ℕ) → p ≤ length s → p + fieldLen (drop p s) ≤ length s
+end-within s p h = omega (arith, fieldLen-le (drop p s), length-drop p s)
+
+-- what is left to say of a number after its comma
+pub numberAt-go : (s : List ℕ) (at max e : ℕ) (n : Num) → at < length s → getD s at 0 ≡ comma → e ≡ at + 1 + fieldLen (drop (at + 1) s)
+    → n ≡ numberOf (take (e - (at + 1)) (drop (at + 1) s)) → numberAt s at max ≡ upTo max at e n
+unfolding numberAt endAt textAt
+numberAt-go s at max e n lt eq he hn = rw (lt-ltb _ _ lt, eq-eqb _ _ eq, hn, he, add-sub-cancel-left)
+
+-- ---- what a field that was read has: a comma before it, an end within the request
+
+after-comma : (s : List ℕ) (at v q : ℕ) (g : Got) → afterComma s at g ≡ Value v q → (at < length s) × (g ≡ Value v q)
+after-comma s at v q g h = go (ltb at (length s)) (eqb (getD s at 0) comma) refl h
+  where
+    go : (a b : Bool) → ltb at (length s) ≡ a → cond (a && b) g (Bad 2 at) ≡ Value v q → (at < length s) × (g ≡ Value v q)
+    go true true i j = (ltb-true at (length s) i, j)
+    go true false i j = let z : _≡_ {A = ℕ} 0 1 = cc in absurd (omega arith)
+    go false b i j = let z : _≡_ {A = ℕ} 0 1 = cc in absurd (omega arith)
+
+up-to : (max p e v q : ℕ) (n : Num) → upTo max p e n ≡ Value v q → (v ≤ max) × (q ≡ e) × (n ≡ Is v)
+up-to max p e v q (Is w) h = go (leb w max) refl h
+  where
+    go : (b : Bool) → leb w max ≡ b → cond b (Value w e) (Bad 4 p) ≡ Value v q → (v ≤ max) × (q ≡ e) × (Is w ≡ Is v)
+    go true t i = let j : w ≡ v = cc in (omega (arith, leb-true w max t), cc, cc)
+    go false t i = let z : _≡_ {A = ℕ} 0 1 = cc in absurd (omega arith)
+up-to max p e v q Not h = let z : _≡_ {A = ℕ} 0 1 = cc in absurd (omega arith)
+
+number-long : (t : List ℕ) (v : ℕ) → numberOf t ≡ Is v → 1 ≤ length t
+unfolding numberOf
+number-long [] v h = let z : _≡_ {A = ℕ} 0 1 = cc in absurd (omega arith)
+number-long (b ∷ t) v h = omega arith
+
+text-within : (s : List ℕ) (p : ℕ) → length (textAt s p) ≤ fieldLen (drop p s)
+unfolding textAt
+text-within s p = rw length-take (omega arith)
+
+-- a number that was read is at most its maximum
+pub number-max : (s : List ℕ) (at max v q : ℕ) → numberAt s at max ≡ Value v q → v ≤ max
+unfolding numberAt
+number-max s at max v q h = up-to max at (endAt s (at + 1)) v q (numberOf (textAt s (at + 1))) (after-comma s at v q _ h .1) .0
+
+-- its comma and its digits are two bytes or more
+pub number-end : (s : List ℕ) (at max v q : ℕ) → numberAt s at max ≡ Value v q → (at + 2 ≤ q) × (q ≤ length s)
+unfolding numberAt endAt
+number-end s at max v q h =
+    let c = after-comma s at v q _ h in
+    let u = up-to max at (endAt s (at + 1)) v q (numberOf (textAt s (at + 1))) (c .1) in
+    let l = number-long (textAt s (at + 1)) v (u .2) in
+    let w = text-within s (at + 1) in
+    let e = end-within s (at + 1) (omega (arith, c .0)) in
+    (omega (arith, u .1, l, w), omega (arith, u .1, e))
+
+-- a word's comma is one byte, and a word that has bytes takes two or more
+pub word-end : (s : List ℕ) (at w q : ℕ) → wordAt s at ≡ Value w q → (at + 1 ≤ q) × (q ≤ length s)
+unfolding wordAt wordFrom endAt
+word-end s at w q h =
+    let c = after-comma s at w q _ h in
+    let j : at + 1 + fieldLen (drop (at + 1) s) ≡ q = cc in
+    (omega (arith, j), omega (arith, j, end-within s (at + 1) (omega (arith, c .0))))
+
+packed-long : (t : List ℕ) → (packedOf t ≡ 0 → ⊥) → 1 ≤ length t
+unfolding packedOf packed
+packed-long [] h = absurd (h refl)
+packed-long (b ∷ t) h = omega arith
+
+pub word-on : (s : List ℕ) (at w q : ℕ) → wordAt s at ≡ Value w q → (w ≡ 0 → ⊥) → at + 2 ≤ q
+unfolding wordAt wordFrom endAt
+word-on s at w q h n =
+    let c = after-comma s at w q _ h in
+    let j : at + 1 + fieldLen (drop (at + 1) s) ≡ q = cc in
+    let k : packedOf (textAt s (at + 1)) ≡ w = cc in
+    omega (arith, j, packed-long (textAt s (at + 1)) (λ z. n (sym k ∙ z)), text-within s (at + 1))

@@ -1,0 +1,19 @@
+use borrow.Author.Needs.{needs}
+use borrow.Author.Tests.{lt-ltb, le-ltb}
+use Rattle.fields.specs.Field.{firstAt}
+use Rattle.fields.proofs.first.Statement.{statement}
+use Rattle.fields.proofs.first.Tie as tie
+
+returns : tie.Need-returns
+unfolding firstAt
+returns c = rw (le-ltb _ _ (c .if1 .taken))
+
+word-from-requires : tie.Need-word-from-requires
+word-from-requires c κs = search needs
+
+returns-2 : tie.Need-returns-2
+unfolding firstAt
+returns-2 c = rw (lt-ltb _ _ (c .before .if1 .left)) (c .word-from .ensures)
+
+pub first-spec : {M : Type 1} → statement M
+first-spec = tie.close (tie.spec returns word-from-requires returns-2)

@@ -1,0 +1,30 @@
+use borrow.Author.Needs.{needs}
+use borrow.Author.Tests.{le-ltb, lt-ltb}
+use Rattle.fields.specs.Field.{belowAt, after}
+use Rattle.fields.proofs.number_below.Statement.{statement}
+use Rattle.fields.proofs.number_below.Tie as tie
+
+number-requires : tie.Need-number-requires
+number-requires c κs = search needs
+
+enum-known-g : tie.Need-enum-known-g
+enum-known-g c = search needs
+
+enum-told : tie.Need-enum-told
+enum-told c = search needs
+
+returns : tie.Need-returns
+unfolding belowAt after
+returns c = rw (← c .before .before .number .ensures, c .enum-told .given .1)
+
+returns-2 : tie.Need-returns-2
+unfolding belowAt after
+returns-2 c = rw (← c .before .before .before .before .number .ensures, c .before .before .g .given .1, lt-ltb _ _ (c .if1 .taken))
+
+returns-3 : tie.Need-returns-3
+unfolding belowAt after
+returns-3 c = rw (← c .before .before .before .before .number .ensures, c .before .before .g .given .1, le-ltb _ _ (c .if1 .left))
+
+pub number-below-spec : {M : Type 1} → statement M
+number-below-spec =
+    tie.close (tie.spec number-requires enum-known-g enum-told returns returns-2 returns-3)

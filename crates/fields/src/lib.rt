@@ -1,0 +1,222 @@
+// A request's fields: a field's end, a number, a word, a line's end. A position is an index of the request.
+ghost use mathlib.Core.Path.{_≡_};
+ghost use Prim.Native.Nat.{_+_, _≤_};
+ghost use lib.ListN.{length, drop};
+ghost use Rattle.fields.specs.Field.{fieldLen, numberOf, digitsOf, packed, packedOf, numberAt, belowAt, betweenAt, wordFrom, wordAt, firstAt, lineEndAt};
+
+const COMMA: u8 = b',';
+
+const LF: u8 = b'\n';
+
+// A number has so many digits at most, and a word so many letters.
+const DIGITS: usize = 19;
+
+const LETTERS: usize = 7;
+
+// The largest number of so many digits.
+const ANY: usize = 9999999999999999999;
+
+// A number, or text that is none.
+pub enum Num {
+    Is(usize),
+    Not,
+}
+
+// A value and the position after its field; or a refusal's number and the position before its field.
+pub enum Got {
+    Value(usize, usize),
+    Bad(usize, usize),
+}
+
+// The position of the comma or LF that ends the field at `at`, or the request's end.
+pub fn field_end(s: &[u8], at: usize) -> usize
+    requires { ⌜ at ≤ length (now s) ⌝ }
+    ensures { λ r. ⌜ r ≡ at + fieldLen (drop at (now (s .entry))) ⌝ }
+{
+    let mut i = at;
+    while i < s.len() {
+        let b = s[i];
+        if b == COMMA {
+            return i;
+        }
+        if b == LF {
+            return i;
+        }
+        i += 1;
+    }
+    i
+}
+
+// The value of up to 19 digits; a text with another byte is no number.
+fn digits(text: &[u8]) -> Num
+    requires { ⌜ length (now text) ≤ 19 ⌝ }
+    ensures { λ r. ⌜ r ≡ digitsOf (now (text .entry)) ⌝ }
+{
+    let mut v: usize = 0;
+    let mut i = 0;
+    while i < text.len() {
+        let b = text[i];
+        match b {
+            b'0'..=b'9' => {
+                v = v * 10 + wide(b - b'0');
+                i += 1;
+            }
+            _ => return Num::Not,
+        }
+    }
+    Num::Is(v)
+}
+
+fn wide(b: u8) -> usize
+    ensures { λ r. ⌜ r ≡ b ⌝ }
+{
+    b as usize
+}
+
+// The number that a text spells.
+pub fn number_of(text: &[u8]) -> Num
+    ensures { λ r. ⌜ r ≡ numberOf (now (text .entry)) ⌝ }
+{
+    if text.len() == 0 {
+        return Num::Not;
+    }
+    if DIGITS < text.len() {
+        return Num::Not;
+    }
+    if text[0] == b'0' {
+        if text.len() == 1 {
+            return Num::Is(0);
+        }
+        return Num::Not;
+    }
+    digits(text)
+}
+
+// The field after a comma at `at`, as a number up to max.
+pub fn number(s: &[u8], at: usize, max: usize) -> Got
+    ensures { λ r. ⌜ r ≡ numberAt (now (s .entry)) at max ⌝ }
+{
+    if s.len() <= at {
+        return Got::Bad(2, at);
+    }
+    if s[at] != COMMA {
+        return Got::Bad(2, at);
+    }
+    let from = at + 1;
+    let end = field_end(s, from);
+    let n = number_of(&s[from..end]);
+    match n {
+        Num::Is(v) => {
+            if v <= max {
+                Got::Value(v, end)
+            } else {
+                Got::Bad(4, at)
+            }
+        }
+        Num::Not => Got::Bad(3, at),
+    }
+}
+
+// The field after a comma at `at`, as the number of one of n things.
+pub fn number_below(s: &[u8], at: usize, n: usize) -> Got
+    ensures { λ r. ⌜ r ≡ belowAt (now (s .entry)) at n ⌝ }
+{
+    let g = number(s, at, ANY);
+    let Got::Value(v, e) = g else {
+        return g;
+    };
+    if v < n {
+        return Got::Value(v, e);
+    }
+    Got::Bad(6, at)
+}
+
+// The field after a comma at `at`, as a number from low to high.
+pub fn number_between(s: &[u8], at: usize, low: usize, high: usize) -> Got
+    ensures { λ r. ⌜ r ≡ betweenAt (now (s .entry)) at low high ⌝ }
+{
+    let g = number(s, at, high);
+    let Got::Value(v, e) = g else {
+        return g;
+    };
+    if v < low {
+        return Got::Bad(4, at);
+    }
+    Got::Value(v, e)
+}
+
+// A short text as a number in base 256.
+fn pack(text: &[u8]) -> usize
+    requires { ⌜ length (now text) ≤ 7 ⌝ }
+    ensures { λ r. ⌜ r ≡ packed 0 (now (text .entry)) ⌝ }
+{
+    let mut v: usize = 0;
+    let mut i = 0;
+    while i < text.len() {
+        v = v * 256 + wide(text[i]);
+        i += 1;
+    }
+    v
+}
+
+// A word's number, which no other text has. A text with more letters, or one that starts with a zero byte, is no word: 0.
+fn packed_of(text: &[u8]) -> usize
+    ensures { λ r. ⌜ r ≡ packedOf (now (text .entry)) ⌝ }
+{
+    if text.len() == 0 {
+        return 0;
+    }
+    if LETTERS < text.len() {
+        return 0;
+    }
+    if text[0] == 0 {
+        return 0;
+    }
+    pack(text)
+}
+
+// The word that starts at `from`.
+fn word_from(s: &[u8], from: usize) -> Got
+    requires { ⌜ from ≤ length (now s) ⌝ }
+    ensures { λ r. ⌜ r ≡ wordFrom (now (s .entry)) from ⌝ }
+{
+    let end = field_end(s, from);
+    Got::Value(packed_of(&s[from..end]), end)
+}
+
+// The field after a comma at `at`, as a word.
+pub fn word(s: &[u8], at: usize) -> Got
+    ensures { λ r. ⌜ r ≡ wordAt (now (s .entry)) at ⌝ }
+{
+    if s.len() <= at {
+        return Got::Bad(2, at);
+    }
+    if s[at] != COMMA {
+        return Got::Bad(2, at);
+    }
+    word_from(s, at + 1)
+}
+
+// A line's first field, as a word.
+pub fn first(s: &[u8], at: usize) -> Got
+    ensures { λ r. ⌜ r ≡ firstAt (now (s .entry)) at ⌝ }
+{
+    if s.len() <= at {
+        return Got::Bad(2, at);
+    }
+    word_from(s, at)
+}
+
+// The LF at `at`.
+pub fn line_end(s: &[u8], at: usize) -> Got
+    ensures { λ r. ⌜ r ≡ lineEndAt (now (s .entry)) at ⌝ }
+{
+    if s.len() <= at {
+        return Got::Bad(2, at);
+    }
+    if s[at] == LF {
+        Got::Value(0, at + 1)
+    } else {
+        Got::Bad(9, at)
+    }
+}

@@ -1,0 +1,4 @@
+pub mod LineOne
+pub mod Counts
+pub mod Definition
+pub mod Sheet

@@ -1,0 +1,1 @@
+// What is promised of a sheet that was read.

@@ -1,0 +1,169 @@
+-- What is known of a last part that was read: its participant, where its lines go on, and that its rows fit.
+use Prim.Native.Nat.{ℕ, zero, suc, _+_, _-_, _<_, _≤_}
+use mathlib.Core.List.{List, [], _∷_, _++_}
+use mathlib.Core.Logic.{by-cases}
+use mathlib.Core.Path.{_≡_, refl, sym, ap, _∙_}
+use native.Mathlib.Decide.{decLe}
+use native.Mathlib.Omega.{arith}
+use lib.Dec.{ltb, eqb}
+use lib.ListN.{length, getD, length-append, List·getD-append}
+use lib.Seq.{getD-at}
+use Rattle.fields.proofs.Ranges.{after-cases, cond-cases, never, below-end, between-end, line-end-next}
+use Rattle.fields.specs.Field.{spelled, after, belowAt, betweenAt, firstAt, lineEndAt}
+use Rattle.fields.specs.declared.Got.{Got}
+use Rattle.fields.specs.declared.Got.the-variants.{Value, Bad}
+use Rattle.requests.proofs.Laws.{past-end}
+use Rattle.requests.specs.Part.{participantAt, pastValueAt, pastValuesAt, makeAt, checkAt, playAt, lastPartAt}
+use Rattle.requests.specs.Rows.{mostRank, mostRows, RowEntry, rowEntry, rowIn, rowsOf, RowFits, Rows, rowsWith, rowNumbersAt, rowAt, noRoomAt, withLine, rowsFrom, rowsAt, Holds}
+use Rattle.requests.specs.declared.Part.{Part}
+use Rattle.requests.specs.declared.RowLine.{RowLine}
+use Rattle.tables.proofs.Laws.{firstOf-getD}
+use Rattle.tables.specs.Entries.{nodeIn}
+use Rattle.requests.specs.declared.Part.the-variants as part
+use Rattle.requests.specs.declared.RowLine.the-variants as line
+
+-- ---- the last part's first line
+
+-- the participant is one of them, the values of secrets are there up to the LF, and the lines go on within the request
+unfoldable pub PartSound : List ℕ → ℕ → ℕ → Part → Type 0
+PartSound s people secrets (part.Make p) = p < people
+PartSound s people secrets (part.Check p e) = (p < people) × (e ≤ length s)
+PartSound s people secrets (part.Play f e) = (pastValuesAt s secrets f ≡ Value 0 (e - 1)) × (f < e) × (e ≤ length s)
+PartSound s people secrets (part.Bad n p) = Unit {0}
+
+participant-end : (s : List ℕ) (people at p q : ℕ) → participantAt s people at ≡ Value p q → (p < people) × (q ≤ length s)
+unfolding participantAt
+participant-end s people at p q =
+    after-cases (λ r. r ≡ Value p q → (p < people) × (q ≤ length s)) Bad (belowAt s at people) _ (λ m o h. never m o p q h) λ w e g.
+    after-cases (λ r. r ≡ Value p q → (p < people) × (q ≤ length s)) Bad (lineEndAt s e) _ (λ m o h. never m o p q h) λ v f k h.
+    let i : w ≡ p = cc in let j : f ≡ q = cc in
+    let field = below-end s at people w e g in
+    let end = line-end-next s e v f k in
+    (omega arith, omega arith)
+
+values-ahead : (s : List ℕ) (n at v q : ℕ) → pastValuesAt s n at ≡ Value v q → (v ≡ 0) × (at ≤ q)
+unfolding pastValuesAt
+values-ahead s zero at v q = λ h. let i : 0 ≡ v = cc in let j : at ≡ q = cc in (omega arith, omega arith)
+values-ahead s (suc n) at v q =
+    after-cases (λ r. r ≡ Value v q → (v ≡ 0) × (at ≤ q)) Bad (pastValueAt s at) _ (λ m o h. never m o v q h) λ w e g h.
+    let one = past-end s at w e g in
+    let rest = values-ahead s n e v q h in
+    (rest .0, omega arith)
+
+module _ (s : List ℕ) (people secrets : ℕ) where
+  bad : (n q : ℕ) → PartSound s people secrets (part.Bad n q)
+  unfolding PartSound
+  bad n q = tt
+
+  make-sound : (e : ℕ) → PartSound s people secrets (makeAt s people e)
+  unfolding makeAt PartSound
+  make-sound e =
+      after-cases (PartSound s people secrets) part.Bad (participantAt s people e) _ bad λ p f g.
+      cond-cases (PartSound s people secrets) (ltb f (length s)) (part.Bad 9 f) (part.Make p) (λ t. bad 9 f) (λ t. participant-end s people e p f g .0)
+
+  check-sound : (e : ℕ) → PartSound s people secrets (checkAt s people e)
+  unfolding checkAt PartSound
+  check-sound e = after-cases (PartSound s people secrets) part.Bad (participantAt s people e) _ bad λ p f g. participant-end s people e p f g
+
+  play-sound : (e : ℕ) → PartSound s people secrets (playAt s secrets e)
+  unfolding playAt PartSound
+  play-sound e =
+      after-cases (PartSound s people secrets) part.Bad (pastValuesAt s secrets e) _ bad λ v f g.
+      after-cases (PartSound s people secrets) part.Bad (lineEndAt s f) _ bad λ w z h.
+      let values = values-ahead s secrets e v f g in
+      let end = line-end-next s f w z h in
+      (let k : z - 1 ≡ f = omega arith in rw (g, k, values .0), omega arith, omega arith)
+
+  pub part-sound : (at : ℕ) → PartSound s people secrets (lastPartAt s people secrets at)
+  unfolding lastPartAt
+  part-sound at =
+      after-cases (PartSound s people secrets) part.Bad (firstAt s at) _ bad λ w e g.
+      cond-cases (PartSound s people secrets) (eqb w (spelled "make")) (makeAt s people e) _ (λ t. make-sound e) λ t.
+      cond-cases (PartSound s people secrets) (eqb w (spelled "check")) (checkAt s people e) _ (λ t. check-sound e) λ t.
+      cond-cases (PartSound s people secrets) (eqb w (spelled "play")) (playAt s secrets e) (part.Bad 3 at) (λ t. play-sound e) λ t.
+      bad 3 at
+
+-- ---- rows
+
+module _ (t : List ℕ) (nodes : ℕ) where
+  unfoldable LineSound : RowLine → Type 0
+  LineSound (line.Row n b k e) = RowFits t nodes (rowEntry n b k)
+  LineSound (line.Bad n p) = Unit {0}
+
+  Fit : List RowEntry → Type 0
+  Fit xs = (i : ℕ) → i < length xs → RowFits t nodes (getD xs i (rowEntry 0 0 0))
+
+-- what was read fits, is no more than there was room for, and is counted
+record RowsSound (t : List ℕ) (nodes room : ℕ) (w : Rows) : Type 0 where
+  fit : Fit t nodes (w .rows)
+  few : length (w .rows) ≤ room
+  counted : (n e : ℕ) → w .answer ≡ Value n e → n ≡ length (w .rows)
+
+module _ (s t : List ℕ) (nodes : ℕ) where
+  line-sound : (at : ℕ) → LineSound t nodes (rowAt s t nodes at)
+  unfolding rowAt rowNumbersAt LineSound
+  line-sound at =
+      after-cases (LineSound t nodes) line.Bad (firstAt s at) _ (λ m p. tt) λ w e g.
+      cond-cases (LineSound t nodes) (eqb w (spelled "row")) _ (line.Bad 3 at)
+      (λ x. after-cases (LineSound t nodes) line.Bad (belowAt s e nodes) _ (λ m p. tt) λ n f h.
+      after-cases (LineSound t nodes) line.Bad (belowAt s f (nodeIn t n .count)) _ (λ m p. tt) λ b q i.
+      after-cases (LineSound t nodes) line.Bad (betweenAt s q 1 mostRank) _ (λ m p. tt) λ k z j.
+      after-cases (LineSound t nodes) line.Bad (lineEndAt s z) _ (λ m p. tt) λ v y l.
+      let rank = between-end s q 1 mostRank k z j in
+      record {
+        has-node = below-end s e nodes n f h .0;
+        has-branch = below-end s f (nodeIn t n .count) b q i .0;
+        has-rank = rank .0;
+        rank-most = rank .1;
+      })
+      (λ x. tt)
+
+  fit-more : (xs : List RowEntry) (r : RowEntry) → Fit t nodes xs → RowFits t nodes r → Fit t nodes (xs ++ (r ∷ []))
+  unfolding Fit
+  fit-more xs r h k i l =
+      by-cases (decLe (length xs) i)
+      (λ o. let e : i ≡ length xs = omega (arith, simp length-append at l) in rw (e, getD-at xs r [] (rowEntry 0 0 0) (length xs) refl) k)
+      (λ o. let j : i < length xs = omega arith in rw (List·getD-append xs (r ∷ []) (rowEntry 0 0 0) i j) (h i j))
+
+  ended : (xs : List RowEntry) (at room : ℕ) → Fit t nodes xs → length xs ≤ room → RowsSound t nodes room (rowsWith xs (Value (length xs) at))
+  ended xs at room h l = record { fit = h; few = l; counted = λ n e z. cc }
+
+  full : {Q : Type 0} (at n e : ℕ) → noRoomAt s at ≡ Value n e → Q
+  unfolding noRoomAt
+  full {Q} at n e =
+      after-cases (λ r. r ≡ Value n e → Q) Bad (firstAt s at) _ (λ m p h. never m p n e h) λ w f g.
+      cond-cases (λ r. r ≡ Value n e → Q) (eqb w (spelled "row")) (Bad 7 at) (Bad 3 at) (λ b h. never 7 at n e h) (λ b h. never 3 at n e h)
+
+  line-on : (xs : List RowEntry) (left : ℕ) (go : List RowEntry → ℕ → Rows) (l : RowLine) → LineSound t nodes l → Fit t nodes xs
+      → ((ys : List RowEntry) (e : ℕ) → Fit t nodes ys → RowsSound t nodes (length ys + left) (go ys e))
+      → RowsSound t nodes (length xs + suc left) (withLine xs go l)
+  unfolding withLine LineSound
+  line-on xs left go (line.Row n b k e) f h more =
+      let w = more (xs ++ (rowEntry n b k ∷ [])) e (fit-more xs (rowEntry n b k) h f) in
+      record { fit = w .fit; few = omega (arith, w .few, length-append xs (rowEntry n b k ∷ [])); counted = w .counted }
+  line-on xs left go (line.Bad m p) f h more = record { fit = h; few = omega arith; counted = λ n e z. never m p n e z }
+
+  rows-sound : (left : ℕ) (xs : List RowEntry) (at : ℕ) → Fit t nodes xs → RowsSound t nodes (length xs + left) (rowsFrom s t nodes left xs at)
+  unfolding rowsFrom
+  rows-sound zero xs at h =
+      cond-cases (RowsSound t nodes (length xs + 0)) (ltb at (length s)) _ _
+      (λ b. record { fit = h; few = omega arith; counted = λ n e z. full at n e z })
+      (λ b. ended xs at (length xs + 0) h (omega arith))
+  rows-sound (suc left) xs at h =
+      cond-cases (RowsSound t nodes (length xs + suc left)) (ltb at (length s)) _ _
+      (λ b. line-on xs left (rowsFrom s t nodes left) (rowAt s t nodes at) (line-sound at) h (rows-sound left))
+      (λ b. ended xs at (length xs + suc left) h (omega arith))
+
+-- what a buffer holds after `check` was read
+pub rows-fit : (s t : List ℕ) (nodes from : ℕ) (r : Got) (u₀ u : List ℕ) (n e : ℕ) → Holds (rowsAt s t nodes from) r u₀ u → r ≡ Value n e
+    → (n ≤ mostRows) × ((i : ℕ) → i < n → RowFits t nodes (rowIn u i))
+unfolding rowsAt rowsOf Fit
+rows-fit s t nodes from r u₀ u n e holds h =
+    let w = rows-sound s t nodes mostRows [] from (λ i l. absurd (omega arith)) in
+    let xs = rowsFrom s t nodes mostRows [] from .rows in
+    let k : n ≡ length xs = w .counted n e (sym (holds .answer) ∙ h) in (
+      omega (arith, w .few),
+      λ i l.
+          let same : getD xs i (rowEntry 0 0 0) ≡ rowIn u i = ap (λ x. getD x i (rowEntry 0 0 0)) (sym (holds .rows)) ∙ firstOf-getD (rowIn u) (length xs) i (rowEntry 0 0 0) (omega arith) in
+          rw same at (w .fit i (omega arith)),
+    )

@@ -1,0 +1,94 @@
+-- The rows of `check`, as they are read and as a buffer holds them.
+use Prim.Native.Nat.{ℕ, zero, suc, _+_, _*_, _<_, _≤_}
+use mathlib.Core.Bool.{cond}
+use mathlib.Core.List.{List, [], _∷_, _++_}
+use mathlib.Core.Path.{_≡_}
+use lib.Dec.{ltb, eqb}
+use lib.ListN.{length, getD, drop}
+use Rattle.fields.specs.Field.{spelled, after, belowAt, betweenAt, firstAt, lineEndAt}
+use Rattle.fields.specs.declared.Got.{Got}
+use Rattle.fields.specs.declared.Got.the-variants.{Value, Bad}
+use Rattle.requests.specs.declared.RowLine.{RowLine}
+use Rattle.tables.specs.Entries.{firstOf, nodeIn}
+use Rattle.requests.specs.declared.RowLine.the-variants as line
+
+abbrev pub mostRank : ℕ
+mostRank = 65_535
+
+abbrev pub mostRows : ℕ
+mostRows = 512
+
+-- "`row`,node,branch,rank"
+pub record RowEntry : Type 0 where
+  pub node : ℕ
+  pub branch : ℕ
+  pub rank : ℕ
+
+abbrev pub rowEntry : ℕ → ℕ → ℕ → RowEntry
+rowEntry n b k = record { node = n; branch = b; rank = k }
+
+-- ---- a buffer: row i stands in its cells 3 * i, 3 * i + 1 and 3 * i + 2
+
+abbrev pub rowIn : List ℕ → ℕ → RowEntry
+rowIn u i = rowEntry (getD u (3 * i) 0) (getD u (3 * i + 1) 0) (getD u (3 * i + 2) 0)
+
+unfoldable pub rowsOf : ℕ → List ℕ → List RowEntry
+rowsOf n u = firstOf (rowIn u) n
+
+-- the cells past n rows
+unfoldable pub pastRows : ℕ → List ℕ → List ℕ
+pastRows n u = drop (3 * n) u
+
+-- ---- reading, for a table t that holds so many nodes
+
+-- a row that document 01 allows: its node and branch are there, its rank is "1 to 65,535"
+pub record RowFits (t : List ℕ) (nodes : ℕ) (r : RowEntry) : Type 0 where
+  pub has-node : r .node < nodes
+  pub has-branch : r .branch < nodeIn t (r .node) .count
+  pub has-rank : 1 ≤ r .rank
+  pub rank-most : r .rank ≤ mostRank
+
+-- what was read: the rows before the request's end or the first refusal, and how many, or the refusal
+pub record Rows : Type 0 where
+  pub rows : List RowEntry
+  pub answer : Got
+
+abbrev pub rowsWith : List RowEntry → Got → Rows
+rowsWith xs g = record { rows = xs; answer = g }
+
+module _ (s t : List ℕ) (nodes : ℕ) where
+  -- "lines `row`,node,branch,rank (1 to 65,535)": 6 where there is no such node, or it has no such branch
+  unfoldable pub rowNumbersAt : ℕ → RowLine
+  rowNumbersAt at =
+      after line.Bad (belowAt s at nodes) λ n e.
+      after line.Bad (belowAt s e (nodeIn t n .count)) λ b f.
+      after line.Bad (betweenAt s f 1 mostRank) λ k q.
+      after line.Bad (lineEndAt s q) λ v z. line.Row n b k z
+
+  unfoldable pub rowAt : ℕ → RowLine
+  rowAt at = after line.Bad (firstAt s at) λ w e. cond (eqb w (spelled "row")) (rowNumbersAt e) (line.Bad 3 at)
+
+-- "512 rows passed (.. rows at the word `row`, ..)"
+unfoldable pub noRoomAt : List ℕ → ℕ → Got
+noRoomAt s at = after Bad (firstAt s at) λ w e. cond (eqb w (spelled "row")) (Bad 7 at) (Bad 3 at)
+
+-- one line more, and the lines after it
+unfoldable pub withLine : List RowEntry → (List RowEntry → ℕ → Rows) → RowLine → Rows
+withLine xs go (line.Row n b k e) = go (xs ++ (rowEntry n b k ∷ [])) e
+withLine xs go (line.Bad n p) = rowsWith xs (Bad n p)
+
+-- after the rows xs, with room for so many more
+unfoldable pub rowsFrom : List ℕ → List ℕ → ℕ → ℕ → List RowEntry → ℕ → Rows
+rowsFrom s t nodes zero xs at = cond (ltb at (length s)) (rowsWith xs (noRoomAt s at)) (rowsWith xs (Value (length xs) at))
+rowsFrom s t nodes (suc left) xs at =
+    cond (ltb at (length s)) (withLine xs (rowsFrom s t nodes left) (rowAt s t nodes at)) (rowsWith xs (Value (length xs) at))
+
+-- "up to 512 lines `row`", from the position after the line of `check`
+unfoldable pub rowsAt : List ℕ → List ℕ → ℕ → ℕ → Rows
+rowsAt s t nodes at = rowsFrom s t nodes mostRows [] at
+
+-- the answer is what was read, and a buffer that was u₀ has become u: the rows "as given", and past them what it held
+pub record Holds (want : Rows) (r : Got) (u₀ u : List ℕ) : Type 0 where
+  pub answer : r ≡ want .answer
+  pub rows : rowsOf (length (want .rows)) u ≡ want .rows
+  pub rest : pastRows (length (want .rows)) u ≡ pastRows (length (want .rows)) u₀

@@ -1,0 +1,97 @@
+-- An index finds the entries that belong together; making one. Assumes nothing.
+use mathlib.Core.Path.{_≡_, sym, ap, ap₂, _∙_, subst}
+use Prim.Native.Nat.{ℕ, suc, _+_, _-_, _≤_, _<_}
+use native.Mathlib.Omega.{arith}
+use mathlib.Core.List.{List, _++_}
+use lib.ListN.{length, getD, take, drop, length-append, length-drop, List·getD-append}
+use lib.Seq.{getD-drop, take-at, getD-append-add, length-take-le}
+use Rattle.bucket.specs.Bucket.{keyAt, Keys, Buckets, bucketOf}
+use Rattle.bucket.proofs.Laws.{buckets-frame}
+use Rattle.bucket.proofs.Find.{bucket-size, bucket-at, bucket-room}
+use Rattle.tables.specs.Entries.{Entries, held, people}
+use Rattle.tables.specs.SheetOf.{nodeEntryAt, branchEntryAt, branchNumbers, branchCount, branchNumber, partNumbers, partCount, partNumber}
+use Rattle.tables.proofs.Held.{node-held, branch-held}
+use Rattle.reader.proofs.Formed.{parent-small}
+use Rattle.sheets.specs.Ready.{Ready, Indexed}
+
+module _ (E : Entries) (x : List ℕ) (w : Indexed E x) where
+  pub branch-at : (n i : ℕ) → n < 512 → i < branchCount E n → branchNumber E n i ≡ getD x (513 + getD x n 0 + i) 0
+  unfolding branchCount branchNumber branchNumbers bucketOf
+  branch-at n i h l =
+      bucket-at _ _ _ _ _ (w .branches) n i h l ∙ getD-drop 513 x (getD x n 0 + i) 0
+      ∙ ap (λ j. getD x j 0) (let z : 513 + (getD x n 0 + i) ≡ 513 + getD x n 0 + i = omega arith in z)
+
+  pub branch-room : (n i : ℕ) → n < 512 → i < branchCount E n → getD x n 0 + i < length (E .branches)
+  unfolding branchCount branchNumbers bucketOf
+  branch-room n i h l = bucket-room _ _ _ _ _ (w .branches) n i h l
+
+  part-start : (b : ℕ) → getD (drop 1537 x) b 0 ≡ getD x (1537 + b) 0
+  part-start b = getD-drop 1537 x b 0
+
+  pub parts-at : (b : ℕ) → b < 1025 → partCount E b ≡ getD x (1537 + (b + 1)) 0 - getD x (1537 + b) 0
+  unfolding partCount partNumbers bucketOf
+  parts-at b h = bucket-size _ _ _ _ _ (w .parts) b h ∙ ap₂ (λ p q. p - q) (part-start (b + 1)) (part-start b)
+
+  pub parts-rise : (b : ℕ) → b < 1025 → getD x (1537 + b) 0 ≤ getD x (1537 + (b + 1)) 0
+  parts-rise b h =
+      let z : suc b ≡ b + 1 = omega arith in
+      let y = subst (λ k. getD (drop 1537 x) b 0 ≤ getD (drop 1537 x) k 0) z (w .parts .rises b h) in
+      omega (arith, part-start b, part-start (b + 1))
+
+  pub part-at : (b i : ℕ) → b < 1025 → i < partCount E b → partNumber E b i ≡ getD x (2563 + getD x (1537 + b) 0 + i) 0
+  unfolding partCount partNumber partNumbers bucketOf
+  part-at b i h l =
+      bucket-at _ _ _ _ _ (w .parts) b i h l ∙ getD-drop 2563 x (getD (drop 1537 x) b 0 + i) 0
+      ∙ ap (λ j. getD x j 0) (let z : 2563 + (getD (drop 1537 x) b 0 + i) ≡ 2563 + getD x (1537 + b) 0 + i = omega (arith, part-start b) in z)
+
+  pub part-room : (b i : ℕ) → b < 1025 → i < partCount E b → getD x (1537 + b) 0 + i < length (E .nodes)
+  unfolding partCount partNumbers bucketOf
+  part-room b i h l = omega (arith, part-start b, bucket-room _ _ _ _ _ (w .parts) b i h l)
+
+-- ---- making it
+
+module _ (t : List ℕ) (ok : Ready t) where
+  branch-key : (b : ℕ) → b < length (held t .branches) → keyAt t 2056 8 b ≡ branchEntryAt (held t) b .node
+  unfolding keyAt
+  branch-key b h = ap (λ e. e .node) (sym (branch-held t b h))
+
+  node-key : (n : ℕ) → n < length (held t .nodes) → keyAt t 9 4 n ≡ nodeEntryAt (held t) n .parent
+  unfolding keyAt
+  node-key n h = ap (λ e. e .parent) (sym (node-held t n h))
+
+  pub keys-branches : (k : ℕ) → k ≡ length (held t .branches) → Keys t 2056 8 k 512
+  keys-branches k e =
+      record {
+        there = λ i h. omega (arith, ok .promises .limits .branches, ok .long);
+        small =
+            λ i h. let l : i < length (held t .branches) = omega arith in omega (arith, branch-key i l, ok .promises .branch i l .node, ok .promises .limits .nodes);
+      }
+
+  pub keys-nodes : (k : ℕ) → k ≡ length (held t .nodes) → Keys t 9 4 k 1025
+  keys-nodes k e =
+      record {
+        there = λ i h. omega (arith, ok .promises .limits .nodes, ok .long);
+        small = λ i h. let l : i < length (held t .nodes) = omega arith in omega (arith, node-key i l, parent-small (people t) (held t) (ok .promises) i l);
+      }
+
+  -- the two parts of the slice put together
+  pub indexed : (r n : ℕ) (F D G P : List ℕ) → r ≡ length (held t .branches) → n ≡ length (held t .nodes) → length F ≡ 1537 → 1538 ≤ length G
+      → Buckets (keyAt t 2056 8) r 512 F (drop 513 F) → Buckets (keyAt t 9 4) n 1025 G (drop 1026 G) → Indexed (held t) (take 1537 (F ++ D) ++ (G ++ P))
+  indexed r n F D G P er en lf lg br bn =
+      let x = F ++ (G ++ P) in
+      let low : (j : ℕ) → j < 1537 → getD x j 0 ≡ getD F j 0 = λ j h. List·getD-append F (G ++ P) 0 j (omega arith) in
+      let high : (j : ℕ) → j < 1538 → getD x (1537 + j) 0 ≡ getD G j 0 = λ j h.
+      ap (λ i. getD x i 0) (let z : 1537 + j ≡ length F + j = omega arith in z) ∙ getD-append-add F (G ++ P) j 0 ∙ List·getD-append G P 0 j (omega arith) in
+      let w : Indexed (held t) x = record {
+        long = omega (arith, length-append F (G ++ P), length-append G P);
+        branches = subst (λ k. Buckets (λ b. branchEntryAt (held t) b .node) k 512 x (drop 513 x)) er
+            (buckets-frame (keyAt t 2056 8) (λ b. branchEntryAt (held t) b .node) r 512 F (drop 513 F) x (drop 513 x) (λ b h. branch-key b (omega arith)) (λ k h. low k (omega arith))
+            (λ j h. getD-drop 513 x j 0 ∙ low (513 + j) (omega (arith, ok .promises .limits .branches)) ∙ sym (getD-drop 513 F j 0)) br);
+        parts = subst (λ k. Buckets (λ m. nodeEntryAt (held t) m .parent) k 1025 (drop 1537 x) (drop 2563 x)) en
+            (buckets-frame (keyAt t 9 4) (λ m. nodeEntryAt (held t) m .parent) n 1025 G (drop 1026 G) (drop 1537 x) (drop 2563 x) (λ m h. node-key m (omega arith)) (λ k h. getD-drop 1537 x k 0 ∙ high k (omega arith))
+            (λ j h. getD-drop 2563 x j 0 ∙ ap (λ i. getD x i 0) (let z : 2563 + j ≡ 1537 + (1026 + j) = omega arith in z) ∙ high (1026 + j) (omega (arith, ok .promises .limits .nodes)) ∙ sym (getD-drop 1026 G j 0)) bn);
+      } in
+      subst (λ ys. Indexed (held t) (ys ++ (G ++ P))) (sym (take-at F D 1537 lf)) w
+
+pub rest-length : (x : List ℕ) (a : ℕ) → length (take (length x - a) (drop a x)) ≡ length x - a
+rest-length x a = length-take-le (length x - a) (drop a x) (rw length-drop (omega arith))

@@ -1,0 +1,85 @@
+use native.Mathlib.Omega.{arith}
+use mathlib.Core.Path.{_≡_, sym, ap, _∙_}
+use mathlib.Core.Logic.{⊎-elim, inl, inr}
+use Rattle.sheets.proofs.Owning.{own-others, own-simple, own-renewal, own-guarded, own-reveal}
+use Rattle.tables.specs.SheetOf.{branchEntryAt, cellAt}
+use Rattle.tables.specs.Entries.{held, people}
+use borrow.Author.Needs.{needs}
+use Rattle.sheets.proofs.own.Statement.{statement}
+use Rattle.sheets.proofs.own.Tie as tie
+
+branch-signers-requires : tie.Need-branch-signers-requires
+branch-signers-requires c κs = search needs
+
+returns : tie.Need-returns
+returns c = let a = c .before .before .before .before .args in
+    let e = c .before .before .branch-signers .ensures in
+    sym (own-others (people (a .t .now)) (held (a .t .now)) (a .p) (a .n) (a .b) (c .before .before .before .before .pre .0 .promises .branch (a .b) (c .before .before .before .before .pre .1 .2) .signers) (λ z. c .before .if1 .taken (e ∙ z)) (λ z. c .if2 .taken (e ∙ z ∙ sym (c .before .before .before .before .pre .1 .0))))
+
+branch-kind-requires : tie.Need-branch-kind-requires
+branch-kind-requires c κs = search needs
+
+returns-2 : tie.Need-returns-2
+returns-2 c = let a = c .before .before .before .before .before .args in
+    let e = sym (c .before .before .before .branch-signers .ensures) in
+    sym (own-simple (people (a .t .now)) (held (a .t .now)) (a .p) (a .n) (a .b) (⊎-elim (λ w. inr (e ∙ w .1 .left ∙ c .before .before .before .before .before .pre .1 .0)) (λ w. inl (e ∙ w .left)) (c .before .before .if1 .came)) (omega arith))
+
+returns-3 : tie.Need-returns-3
+returns-3 c = let a = c .before .before .before .before .before .before .args in
+    sym (own-renewal (people (a .t .now)) (held (a .t .now)) (a .p) (a .n) (a .b) (omega arith) (λ z. c .if4 .taken (c .before .before .branch-kind .ensures ∙ z)))
+
+branch-cond-requires : tie.Need-branch-cond-requires
+branch-cond-requires c κs = search needs
+
+cell-at-requires : tie.Need-cell-at-requires
+cell-at-requires c κs = let p = c .before .before .before .before .before .before .before .pre in
+    let k : branchEntryAt (held (c .before .before .before .before .before .before .before .args .t .now)) (c .before .before .before .before .before .before .before .args .b) .kind ≡ 2 = sym (c .before .before .before .branch-kind .ensures) ∙ c .before .if4 .left in
+    (p .0, omega (arith, p .0 .promises .branch (c .before .before .before .before .before .before .before .args .b) (p .1 .2) .reveal k .cond))
+
+returns-4 : tie.Need-returns-4
+returns-4 c = let a = c .before .before .before .before .before .before .before .before .before .args in
+    let E = held (a .t .now) in
+    sym (own-guarded (people (a .t .now)) E (a .p) (a .n) (a .b) (sym (c .before .before .before .before .before .branch-kind .ensures) ∙ c .before .before .before .if4 .left) (λ z. c .if5 .taken (c .before .cell-at .ensures ∙ ap (cellAt E) (c .before .before .branch-cond .ensures) ∙ z)))
+
+node-definition-requires : tie.Need-node-definition-requires
+node-definition-requires c κs = search needs
+
+branch-first-requires : tie.Need-branch-first-requires
+branch-first-requires c κs = search needs
+
+branch-secrets-requires : tie.Need-branch-secrets-requires
+branch-secrets-requires c κs = search needs
+
+owns-all-requires : tie.Need-owns-all-requires
+owns-all-requires c κs = let a = c .before .before .before .before .before .before .before .before .before .before .before .before .args in
+    let p = c .before .before .before .before .before .before .before .before .before .before .before .before .pre in
+    let k : branchEntryAt (held (a .t .now)) (a .b) .kind ≡ 2 = sym (c .before .before .before .before .before .before .before .before .branch-kind .ensures) ∙ c .before .before .before .before .before .before .if4 .left in
+    (p .0, (omega (arith, p .0 .promises .node (a .n) (p .1 .1) .definition), omega (arith, p .0 .promises .branch (a .b) (p .1 .2) .reveal k .listed)))
+
+returns-5 : tie.Need-returns-5
+returns-5 c = let a = c .before .before .before .before .before .before .before .before .before .before .before .before .before .args in
+    let p = c .before .before .before .before .before .before .before .before .before .before .before .before .before .pre in
+    let E = held (a .t .now) in
+    let e = sym (c .before .before .before .before .before .before .before .before .before .before .before .branch-signers .ensures) in
+    let k : branchEntryAt E (a .b) .kind ≡ 2 = sym (c .before .before .before .before .before .before .before .before .before .branch-kind .ensures) ∙ c .before .before .before .before .before .before .before .if4 .left in
+    let z : cellAt E (branchEntryAt E (a .b) .cond) ≡ 0 = ap (cellAt E) (sym (c .before .before .before .before .before .before .branch-cond .ensures)) ∙ sym (c .before .before .before .before .before .cell-at .ensures) ∙ c .before .before .before .before .if5 .left in
+    c .owns-all .ensures ∙ rw (c .before .before .before .node-definition .ensures, c .before .before .branch-first .ensures, c .before .branch-secrets .ensures)
+    (sym (own-reveal (people (a .t .now)) E (a .p) (a .n) (a .b) (p .1 .1) (⊎-elim (λ w. inr (e ∙ w .1 .left ∙ p .1 .0)) (λ w. inl (e ∙ w .left)) (c .before .before .before .before .before .before .before .before .before .before .if1 .came)) k z))
+
+pub own-spec : {M : Type 1} → statement M
+own-spec =
+    tie.close
+    (tie.spec
+    branch-signers-requires
+    returns
+    branch-kind-requires
+    returns-2
+    returns-3
+    branch-cond-requires
+    cell-at-requires
+    returns-4
+    node-definition-requires
+    branch-first-requires
+    branch-secrets-requires
+    owns-all-requires
+    returns-5)

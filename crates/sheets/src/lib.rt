@@ -1,0 +1,358 @@
+// A sheet's table once it is read: its entries, an index of them, and which branches are own.
+use bucket::bucket;
+use tables::Action;
+use tables::Sheet;
+ghost use mathlib.Core.Path.{_≡_};
+ghost use mathlib.Core.List.{map};
+ghost use Prim.Native.Nat.{_+_, _^_, _≤_, _<_};
+ghost use lib.ListN.{length};
+ghost use Rattle.bitml.specs.Lists.{every, upFrom};
+ghost use Rattle.bitml.specs.Sheet.{owns};
+ghost use Rattle.bitml.specs.Runs.{own};
+ghost use Rattle.tables.specs.Entries.{held, people};
+ghost use Rattle.tables.specs.SheetOf.{nodeEntryAt, branchEntryAt, defEntryAt, listedAt, cellAt, branchCount, branchNumber, partCount, partNumber, depositOf, ownerOf, branchOf, sheetIn};
+ghost use Rattle.sheets.specs.Ready.{Ready, Indexed};
+
+// The table's header: how many there are of each.
+const PEOPLE: usize = 0;
+
+const DEFS: usize = 1;
+
+const NODES: usize = 2;
+
+const BRANCHES: usize = 3;
+
+// Where the numbers of the first node stand in a table, of the first branch, of the first definition.
+const NODE_DEFINITION: usize = Sheet::NODES_AT;
+
+const NODE_PARENT: usize = Sheet::NODES_AT + 1;
+
+const NODE_WEIGHT: usize = Sheet::NODES_AT + 2;
+
+const NODE_COUNT: usize = Sheet::NODES_AT + 3;
+
+const BRANCH_NODE: usize = Sheet::BRANCHES_AT;
+
+const BRANCH_SIGNERS: usize = Sheet::BRANCHES_AT + 1;
+
+const BRANCH_OPENS: usize = Sheet::BRANCHES_AT + 2;
+
+const BRANCH_KIND: usize = Sheet::BRANCHES_AT + 3;
+
+const BRANCH_ARG: usize = Sheet::BRANCHES_AT + 4;
+
+const BRANCH_FIRST: usize = Sheet::BRANCHES_AT + 5;
+
+const BRANCH_COUNT: usize = Sheet::BRANCHES_AT + 6;
+
+const BRANCH_COND: usize = Sheet::BRANCHES_AT + 7;
+
+const DEF_ROOT: usize = Sheet::DEFS_AT;
+
+const DEF_FIRST: usize = Sheet::DEFS_AT + 1;
+
+const DEF_SECRETS: usize = Sheet::DEFS_AT + 2;
+
+// An index: where each node's branches start; from here on the branches by node, where each branch's parts start, the nodes by parent.
+const BRANCHES_BY: usize = Sheet::NODES + 1;
+
+const PARTS_FROM: usize = BRANCHES_BY + Sheet::BRANCHES;
+
+const PARTS_BY: usize = PARTS_FROM + Sheet::BRANCHES + 2;
+
+// How many numbers an index has.
+pub const INDEX: usize = PARTS_BY + Sheet::NODES;
+
+// How many participants.
+pub fn people(t: &[usize]) -> usize
+    requires { ⌜ Ready (now t) ⌝ }
+    ensures { λ r. ⌜ r ≡ people (now (t .entry)) ⌝ }
+{
+    t[PEOPLE]
+}
+
+// How many definitions, nodes, branches.
+pub fn def_total(t: &[usize]) -> usize
+    requires { ⌜ Ready (now t) ⌝ }
+    ensures { λ r. ⌜ r ≡ length (held (now (t .entry)) .defs) ⌝ }
+{
+    t[DEFS]
+}
+
+pub fn node_total(t: &[usize]) -> usize
+    requires { ⌜ Ready (now t) ⌝ }
+    ensures { λ r. ⌜ r ≡ length (held (now (t .entry)) .nodes) ⌝ }
+{
+    t[NODES]
+}
+
+pub fn branch_total(t: &[usize]) -> usize
+    requires { ⌜ Ready (now t) ⌝ }
+    ensures { λ r. ⌜ r ≡ length (held (now (t .entry)) .branches) ⌝ }
+{
+    t[BRANCHES]
+}
+
+pub fn node_definition(t: &[usize], n: usize) -> usize
+    requires { ⌜ Ready (now t) ⌝ }
+    requires { ⌜ n < length (held (now t) .nodes) ⌝ }
+    ensures { λ r. ⌜ r ≡ nodeEntryAt (held (now (t .entry))) n .definition ⌝ }
+{
+    t[NODE_DEFINITION + 4 * n]
+}
+
+pub fn node_weight(t: &[usize], n: usize) -> usize
+    requires { ⌜ Ready (now t) ⌝ }
+    requires { ⌜ n < length (held (now t) .nodes) ⌝ }
+    ensures { λ r. ⌜ r ≡ nodeEntryAt (held (now (t .entry))) n .weight ⌝ }
+{
+    t[NODE_WEIGHT + 4 * n]
+}
+
+pub fn branch_signers(t: &[usize], b: usize) -> usize
+    requires { ⌜ Ready (now t) ⌝ }
+    requires { ⌜ b < length (held (now t) .branches) ⌝ }
+    ensures { λ r. ⌜ r ≡ branchEntryAt (held (now (t .entry))) b .signers ⌝ }
+{
+    t[BRANCH_SIGNERS + 8 * b]
+}
+
+pub fn branch_opens(t: &[usize], b: usize) -> usize
+    requires { ⌜ Ready (now t) ⌝ }
+    requires { ⌜ b < length (held (now t) .branches) ⌝ }
+    ensures { λ r. ⌜ r ≡ branchEntryAt (held (now (t .entry))) b .opens ⌝ }
+{
+    t[BRANCH_OPENS + 8 * b]
+}
+
+pub fn branch_kind(t: &[usize], b: usize) -> usize
+    requires { ⌜ Ready (now t) ⌝ }
+    requires { ⌜ b < length (held (now t) .branches) ⌝ }
+    ensures { λ r. ⌜ r ≡ branchEntryAt (held (now (t .entry))) b .kind ⌝ }
+{
+    t[BRANCH_KIND + 8 * b]
+}
+
+pub fn branch_arg(t: &[usize], b: usize) -> usize
+    requires { ⌜ Ready (now t) ⌝ }
+    requires { ⌜ b < length (held (now t) .branches) ⌝ }
+    ensures { λ r. ⌜ r ≡ branchEntryAt (held (now (t .entry))) b .arg ⌝ }
+{
+    t[BRANCH_ARG + 8 * b]
+}
+
+pub fn branch_first(t: &[usize], b: usize) -> usize
+    requires { ⌜ Ready (now t) ⌝ }
+    requires { ⌜ b < length (held (now t) .branches) ⌝ }
+    ensures { λ r. ⌜ r ≡ branchEntryAt (held (now (t .entry))) b .first ⌝ }
+{
+    t[BRANCH_FIRST + 8 * b]
+}
+
+pub fn branch_secrets(t: &[usize], b: usize) -> usize
+    requires { ⌜ Ready (now t) ⌝ }
+    requires { ⌜ b < length (held (now t) .branches) ⌝ }
+    ensures { λ r. ⌜ r ≡ branchEntryAt (held (now (t .entry))) b .count ⌝ }
+{
+    t[BRANCH_COUNT + 8 * b]
+}
+
+pub fn branch_cond(t: &[usize], b: usize) -> usize
+    requires { ⌜ Ready (now t) ⌝ }
+    requires { ⌜ b < length (held (now t) .branches) ⌝ }
+    ensures { λ r. ⌜ r ≡ branchEntryAt (held (now (t .entry))) b .cond ⌝ }
+{
+    t[BRANCH_COND + 8 * b]
+}
+
+pub fn def_root(t: &[usize], d: usize) -> usize
+    requires { ⌜ Ready (now t) ⌝ }
+    requires { ⌜ d < length (held (now t) .defs) ⌝ }
+    ensures { λ r. ⌜ r ≡ defEntryAt (held (now (t .entry))) d .root ⌝ }
+{
+    t[DEF_ROOT + 3 * d]
+}
+
+pub fn def_first(t: &[usize], d: usize) -> usize
+    requires { ⌜ Ready (now t) ⌝ }
+    requires { ⌜ d < length (held (now t) .defs) ⌝ }
+    ensures { λ r. ⌜ r ≡ defEntryAt (held (now (t .entry))) d .first ⌝ }
+{
+    t[DEF_FIRST + 3 * d]
+}
+
+pub fn def_secrets(t: &[usize], d: usize) -> usize
+    requires { ⌜ Ready (now t) ⌝ }
+    requires { ⌜ d < length (held (now t) .defs) ⌝ }
+    ensures { λ r. ⌜ r ≡ defEntryAt (held (now (t .entry))) d .secrets ⌝ }
+{
+    t[DEF_SECRETS + 3 * d]
+}
+
+pub fn listed_at(t: &[usize], i: usize) -> usize
+    requires { ⌜ Ready (now t) ⌝ }
+    requires { ⌜ i < length (held (now t) .listed) ⌝ }
+    ensures { λ r. ⌜ r ≡ listedAt (held (now (t .entry))) i ⌝ }
+{
+    t[Sheet::LISTED_AT + i]
+}
+
+pub fn cell_at(t: &[usize], i: usize) -> usize
+    requires { ⌜ Ready (now t) ⌝ }
+    requires { ⌜ i < length (held (now t) .cells) ⌝ }
+    ensures { λ r. ⌜ r ≡ cellAt (held (now (t .entry))) i ⌝ }
+{
+    t[Sheet::CELLS_AT + i]
+}
+
+// The deposit of participant p in definition d.
+pub fn def_deposit(t: &[usize], d: usize, p: usize) -> usize
+    requires { ⌜ Ready (now t) ⌝ }
+    requires { ⌜ (d < length (held (now t) .defs)) × (p < people (now t)) ⌝ }
+    ensures { λ r. ⌜ r ≡ depositOf (held (now (t .entry))) d p ⌝ }
+{
+    let first = def_first(t, d);
+    listed_at(t, first + p)
+}
+
+// The owner of secret j of definition d.
+pub fn def_owner(t: &[usize], d: usize, j: usize) -> usize
+    requires { ⌜ Ready (now t) ⌝ }
+    requires { ⌜ (d < length (held (now t) .defs)) × (j < defEntryAt (held (now t)) d .secrets) ⌝ }
+    ensures { λ r. ⌜ r ≡ ownerOf (people (now (t .entry))) (held (now (t .entry))) d j ⌝ }
+{
+    let first = def_first(t, d);
+    let deposits = people(t);
+    listed_at(t, first + deposits + j)
+}
+
+// How many branches node n has.
+pub fn branch_count(t: &[usize], n: usize) -> usize
+    requires { ⌜ Ready (now t) ⌝ }
+    requires { ⌜ n < length (held (now t) .nodes) ⌝ }
+    ensures { λ r. ⌜ r ≡ branchCount (held (now (t .entry))) n ⌝ }
+{
+    t[NODE_COUNT + 4 * n]
+}
+
+// The number of branch i of node n.
+pub fn branch_of(t: &[usize], x: &[usize], n: usize, i: usize) -> usize
+    requires { ⌜ Ready (now t) ⌝ }
+    requires { ⌜ Indexed (held (now t)) (now x) ⌝ }
+    requires { ⌜ (n < length (held (now t) .nodes)) × (i < branchCount (held (now t)) n) ⌝ }
+    ensures { λ r. ⌜ r ≡ branchNumber (held (now (t .entry))) n i ⌝ }
+{
+    let first = x[n];
+    x[BRANCHES_BY + first + i]
+}
+
+// How many parts branch b has.
+pub fn part_count(t: &[usize], x: &[usize], b: usize) -> usize
+    requires { ⌜ Ready (now t) ⌝ }
+    requires { ⌜ Indexed (held (now t)) (now x) ⌝ }
+    requires { ⌜ b < length (held (now t) .branches) ⌝ }
+    ensures { λ r. ⌜ r ≡ partCount (held (now (t .entry))) b ⌝ }
+{
+    x[PARTS_FROM + (b + 1)] - x[PARTS_FROM + b]
+}
+
+// The node that is part i of branch b.
+pub fn part_of(t: &[usize], x: &[usize], b: usize, i: usize) -> usize
+    requires { ⌜ Ready (now t) ⌝ }
+    requires { ⌜ Indexed (held (now t)) (now x) ⌝ }
+    requires { ⌜ (b < length (held (now t) .branches)) × (i < partCount (held (now t)) b) ⌝ }
+    ensures { λ r. ⌜ r ≡ partNumber (held (now (t .entry))) b i ⌝ }
+{
+    let first = x[PARTS_FROM + b];
+    x[PARTS_BY + first + i]
+}
+
+// The index of a table.
+pub fn index(t: &[usize], x: &mut [usize])
+    requires { ⌜ Ready (now t) ⌝ }
+    requires { ⌜ 3075 ≤ length (now x) ⌝ }
+    ensures { λ _. ⌜ Indexed (held (now (t .entry))) (now (x .exit)) ⌝ }
+{
+    let nodes = node_total(t);
+    let branches = branch_total(t);
+    bucket(
+        t,
+        BRANCH_NODE,
+        8,
+        branches,
+        Sheet::NODES,
+        &mut x[..PARTS_FROM],
+    );
+    bucket(
+        t,
+        NODE_PARENT,
+        4,
+        nodes,
+        Sheet::BRANCHES + 1,
+        &mut x[PARTS_FROM..],
+    );
+}
+
+// 2 to the power of p: the signers that are p alone.
+pub fn mask_of(p: usize) -> usize
+    requires { ⌜ p < 16 ⌝ }
+    ensures { λ r. ⌜ r ≡ 2 ^ p ⌝ }
+{
+    let mut m: usize = 1;
+    let mut i = 0;
+    while i < p {
+        m = m * 2;
+        i += 1;
+    }
+    m
+}
+
+// p owns all the secrets of definition d that are listed from first on.
+fn owns_all(t: &[usize], p: usize, d: usize, first: usize, count: usize) -> bool
+    requires { ⌜ Ready (now t) ⌝ }
+    requires { ⌜ (d < length (held (now t) .defs)) × (first + count ≤ length (held (now t) .listed)) ⌝ }
+    ensures { λ r. ⌜ r ≡ every (owns (sheetIn (now (t .entry))) p d) (map (listedAt (held (now (t .entry)))) (upFrom first count)) ⌝ }
+{
+    let secrets = def_secrets(t, d);
+    let mut i = 0;
+    while i < count {
+        let j = listed_at(t, first + i);
+        if secrets <= j {
+            return false;
+        }
+        if def_owner(t, d, j) != p {
+            return false;
+        }
+        i += 1;
+    }
+    true
+}
+
+// Branch b, one of node n, is own to p; mask is 2 to the power of p.
+pub fn own(t: &[usize], p: usize, mask: usize, n: usize, b: usize) -> bool
+    requires { ⌜ Ready (now t) ⌝ }
+    requires { ⌜ (mask ≡ 2 ^ p) × (n < length (held (now t) .nodes)) × (b < length (held (now t) .branches)) ⌝ }
+    ensures { λ r. ⌜ r ≡ own (sheetIn (now (t .entry))) p n (branchOf (held (now (t .entry))) b) ⌝ }
+{
+    let signers = branch_signers(t, b);
+    if signers != 0 {
+        if signers != mask {
+            return false;
+        }
+    }
+    let kind = branch_kind(t, b);
+    if kind < Action::REVEAL {
+        return true;
+    }
+    if kind != Action::REVEAL {
+        return false;
+    }
+    let c = branch_cond(t, b);
+    if cell_at(t, c) != Sheet::T {
+        return false;
+    }
+    let d = node_definition(t, n);
+    let first = branch_first(t, b);
+    let count = branch_secrets(t, b);
+    owns_all(t, p, d, first, count)
+}

@@ -1,3 +1,4 @@
 pub mod Groups
 pub mod Order
 pub mod Formed
+pub mod Reading

@@ -82,23 +82,23 @@ rest-more u v i h =
 
 -- ---- the lines of rows
 
-module _ (s t : List ℕ) (nodes : ℕ) (xs : List RowEntry) (at : ℕ) where
-  pub rows-end : (left n : ℕ) → length xs ≡ n → length s ≤ at → rowsWith xs (Value n at) ≡ rowsFrom s t nodes left xs at
+module _ (s : List ℕ) (counts : ℕ → ℕ) (nodes : ℕ) (xs : List RowEntry) (at : ℕ) where
+  pub rows-end : (left n : ℕ) → length xs ≡ n → length s ≤ at → rowsWith xs (Value n at) ≡ rowsFrom s counts nodes left xs at
   unfolding rowsFrom
   rows-end zero n l h = rw (le-ltb _ _ h, l)
   rows-end (suc left) n l h = rw (le-ltb _ _ h, l)
 
-  pub rows-full : (i : ℕ) (g : Got) → i ≡ mostRows → at < length s → g ≡ noRoomAt s at → rowsWith xs g ≡ rowsFrom s t nodes (mostRows - i) xs at
+  pub rows-full : (i : ℕ) (g : Got) → i ≡ mostRows → at < length s → g ≡ noRoomAt s at → rowsWith xs g ≡ rowsFrom s counts nodes (mostRows - i) xs at
   unfolding rowsFrom
   rows-full i g e h k = rw (e, lt-ltb _ _ h, k)
 
-  module _ (i : ℕ) (g : RowLine) (room : i < mostRows) (more : at < length s) (read : g ≡ rowAt s t nodes at) where
+  module _ (i : ℕ) (g : RowLine) (room : i < mostRows) (more : at < length s) (read : g ≡ rowAt s counts nodes at) where
     pub rows-on : (n b k e : ℕ) → g ≡ line.Row n b k e
-        → rowsFrom s t nodes (mostRows - (i + 1)) (xs ++ (rowEntry n b k ∷ [])) e ≡ rowsFrom s t nodes (mostRows - i) xs at
+        → rowsFrom s counts nodes (mostRows - (i + 1)) (xs ++ (rowEntry n b k ∷ [])) e ≡ rowsFrom s counts nodes (mostRows - i) xs at
     unfolding rowsFrom withLine
     rows-on n b k e h = let j : mostRows - i ≡ suc (mostRows - (i + 1)) = omega arith in rw (j, lt-ltb _ _ more, ← read, h)
 
-    pub rows-bad : (m p : ℕ) → g ≡ line.Bad m p → rowsWith xs (Bad m p) ≡ rowsFrom s t nodes (mostRows - i) xs at
+    pub rows-bad : (m p : ℕ) → g ≡ line.Bad m p → rowsWith xs (Bad m p) ≡ rowsFrom s counts nodes (mostRows - i) xs at
     unfolding rowsFrom withLine
     rows-bad m p h = let j : mostRows - i ≡ suc (mostRows - (i + 1)) = omega arith in rw (j, lt-ltb _ _ more, ← read, h)
 

@@ -18,7 +18,6 @@ use Rattle.requests.specs.Rows.{mostRank, mostRows, RowEntry, rowEntry, 
 use Rattle.requests.specs.declared.Part.{Part}
 use Rattle.requests.specs.declared.RowLine.{RowLine}
 use Rattle.tables.proofs.Laws.{firstOf-getD}
-use Rattle.tables.specs.Entries.{nodeIn}
 use Rattle.requests.specs.declared.Part.the-variants as part
 use Rattle.requests.specs.declared.RowLine.the-variants as line
 
@@ -85,47 +84,47 @@ module _ (s : List ℕ) (people secrets : ℕ) where
 
 -- ---- rows
 
-module _ (t : List ℕ) (nodes : ℕ) where
+module _ (counts : ℕ → ℕ) (nodes : ℕ) where
   unfoldable LineSound : RowLine → Type 0
-  LineSound (line.Row n b k e) = RowFits t nodes (rowEntry n b k)
+  LineSound (line.Row n b k e) = RowFits counts nodes (rowEntry n b k)
   LineSound (line.Bad n p) = Unit {0}
 
   Fit : List RowEntry → Type 0
-  Fit xs = (i : ℕ) → i < length xs → RowFits t nodes (getD xs i (rowEntry 0 0 0))
+  Fit xs = (i : ℕ) → i < length xs → RowFits counts nodes (getD xs i (rowEntry 0 0 0))
 
 -- what was read fits, is no more than there was room for, and is counted
-record RowsSound (t : List ℕ) (nodes room : ℕ) (w : Rows) : Type 0 where
-  fit : Fit t nodes (w .rows)
+record RowsSound (counts : ℕ → ℕ) (nodes room : ℕ) (w : Rows) : Type 0 where
+  fit : Fit counts nodes (w .rows)
   few : length (w .rows) ≤ room
   counted : (n e : ℕ) → w .answer ≡ Value n e → n ≡ length (w .rows)
 
-module _ (s t : List ℕ) (nodes : ℕ) where
-  line-sound : (at : ℕ) → LineSound t nodes (rowAt s t nodes at)
+module _ (s : List ℕ) (counts : ℕ → ℕ) (nodes : ℕ) where
+  line-sound : (at : ℕ) → LineSound counts nodes (rowAt s counts nodes at)
   unfolding rowAt rowNumbersAt LineSound
   line-sound at =
-      after-cases (LineSound t nodes) line.Bad (firstAt s at) _ (λ m p. tt) λ w e g.
-      cond-cases (LineSound t nodes) (eqb w (spelled "row")) _ (line.Bad 3 at)
-      (λ x. after-cases (LineSound t nodes) line.Bad (belowAt s e nodes) _ (λ m p. tt) λ n f h.
-      after-cases (LineSound t nodes) line.Bad (belowAt s f (nodeIn t n .count)) _ (λ m p. tt) λ b q i.
-      after-cases (LineSound t nodes) line.Bad (betweenAt s q 1 mostRank) _ (λ m p. tt) λ k z j.
-      after-cases (LineSound t nodes) line.Bad (lineEndAt s z) _ (λ m p. tt) λ v y l.
+      after-cases (LineSound counts nodes) line.Bad (firstAt s at) _ (λ m p. tt) λ w e g.
+      cond-cases (LineSound counts nodes) (eqb w (spelled "row")) _ (line.Bad 3 at)
+      (λ x. after-cases (LineSound counts nodes) line.Bad (belowAt s e nodes) _ (λ m p. tt) λ n f h.
+      after-cases (LineSound counts nodes) line.Bad (belowAt s f (counts n)) _ (λ m p. tt) λ b q i.
+      after-cases (LineSound counts nodes) line.Bad (betweenAt s q 1 mostRank) _ (λ m p. tt) λ k z j.
+      after-cases (LineSound counts nodes) line.Bad (lineEndAt s z) _ (λ m p. tt) λ v y l.
       let rank = between-end s q 1 mostRank k z j in
       record {
         has-node = below-end s e nodes n f h .0;
-        has-branch = below-end s f (nodeIn t n .count) b q i .0;
+        has-branch = below-end s f (counts n) b q i .0;
         has-rank = rank .0;
         rank-most = rank .1;
       })
       (λ x. tt)
 
-  fit-more : (xs : List RowEntry) (r : RowEntry) → Fit t nodes xs → RowFits t nodes r → Fit t nodes (xs ++ (r ∷ []))
+  fit-more : (xs : List RowEntry) (r : RowEntry) → Fit counts nodes xs → RowFits counts nodes r → Fit counts nodes (xs ++ (r ∷ []))
   unfolding Fit
   fit-more xs r h k i l =
       by-cases (decLe (length xs) i)
       (λ o. let e : i ≡ length xs = omega (arith, simp length-append at l) in rw (e, getD-at xs r [] (rowEntry 0 0 0) (length xs) refl) k)
       (λ o. let j : i < length xs = omega arith in rw (List·getD-append xs (r ∷ []) (rowEntry 0 0 0) i j) (h i j))
 
-  ended : (xs : List RowEntry) (at room : ℕ) → Fit t nodes xs → length xs ≤ room → RowsSound t nodes room (rowsWith xs (Value (length xs) at))
+  ended : (xs : List RowEntry) (at room : ℕ) → Fit counts nodes xs → length xs ≤ room → RowsSound counts nodes room (rowsWith xs (Value (length xs) at))
   ended xs at room h l = record { fit = h; few = l; counted = λ n e z. cc }
 
   full : {Q : Type 0} (at n e : ℕ) → noRoomAt s at ≡ Value n e → Q
@@ -134,36 +133,41 @@ module _ (s t : List ℕ) (nodes : ℕ) where
       after-cases (λ r. r ≡ Value n e → Q) Bad (firstAt s at) _ (λ m p h. never m p n e h) λ w f g.
       cond-cases (λ r. r ≡ Value n e → Q) (eqb w (spelled "row")) (Bad 7 at) (Bad 3 at) (λ b h. never 7 at n e h) (λ b h. never 3 at n e h)
 
-  line-on : (xs : List RowEntry) (left : ℕ) (go : List RowEntry → ℕ → Rows) (l : RowLine) → LineSound t nodes l → Fit t nodes xs
-      → ((ys : List RowEntry) (e : ℕ) → Fit t nodes ys → RowsSound t nodes (length ys + left) (go ys e))
-      → RowsSound t nodes (length xs + suc left) (withLine xs go l)
+  line-on : (xs : List RowEntry) (left : ℕ) (go : List RowEntry → ℕ → Rows) (l : RowLine) → LineSound counts nodes l → Fit counts nodes xs
+      → ((ys : List RowEntry) (e : ℕ) → Fit counts nodes ys → RowsSound counts nodes (length ys + left) (go ys e))
+      → RowsSound counts nodes (length xs + suc left) (withLine xs go l)
   unfolding withLine LineSound
   line-on xs left go (line.Row n b k e) f h more =
       let w = more (xs ++ (rowEntry n b k ∷ [])) e (fit-more xs (rowEntry n b k) h f) in
       record { fit = w .fit; few = omega (arith, w .few, length-append xs (rowEntry n b k ∷ [])); counted = w .counted }
   line-on xs left go (line.Bad m p) f h more = record { fit = h; few = omega arith; counted = λ n e z. never m p n e z }
 
-  rows-sound : (left : ℕ) (xs : List RowEntry) (at : ℕ) → Fit t nodes xs → RowsSound t nodes (length xs + left) (rowsFrom s t nodes left xs at)
+  rows-sound : (left : ℕ) (xs : List RowEntry) (at : ℕ) → Fit counts nodes xs → RowsSound counts nodes (length xs + left) (rowsFrom s counts nodes left xs at)
   unfolding rowsFrom
   rows-sound zero xs at h =
-      cond-cases (RowsSound t nodes (length xs + 0)) (ltb at (length s)) _ _
+      cond-cases (RowsSound counts nodes (length xs + 0)) (ltb at (length s)) _ _
       (λ b. record { fit = h; few = omega arith; counted = λ n e z. full at n e z })
       (λ b. ended xs at (length xs + 0) h (omega arith))
   rows-sound (suc left) xs at h =
-      cond-cases (RowsSound t nodes (length xs + suc left)) (ltb at (length s)) _ _
-      (λ b. line-on xs left (rowsFrom s t nodes left) (rowAt s t nodes at) (line-sound at) h (rows-sound left))
+      cond-cases (RowsSound counts nodes (length xs + suc left)) (ltb at (length s)) _ _
+      (λ b. line-on xs left (rowsFrom s counts nodes left) (rowAt s counts nodes at) (line-sound at) h (rows-sound left))
       (λ b. ended xs at (length xs + suc left) h (omega arith))
 
 -- what a buffer holds after `check` was read
-pub rows-fit : (s t : List ℕ) (nodes from : ℕ) (r : Got) (u₀ u : List ℕ) (n e : ℕ) → Holds (rowsAt s t nodes from) r u₀ u → r ≡ Value n e
-    → (n ≤ mostRows) × ((i : ℕ) → i < n → RowFits t nodes (rowIn u i))
+pub rows-fit : (s : List ℕ) (counts : ℕ → ℕ) (nodes from : ℕ) (r : Got) (u₀ u : List ℕ) (n e : ℕ) → Holds (rowsAt s counts nodes from) r u₀ u → r ≡ Value n e
+    → (n ≤ mostRows) × ((i : ℕ) → i < n → RowFits counts nodes (rowIn u i))
 unfolding rowsAt rowsOf Fit
-rows-fit s t nodes from r u₀ u n e holds h =
-    let w = rows-sound s t nodes mostRows [] from (λ i l. absurd (omega arith)) in
-    let xs = rowsFrom s t nodes mostRows [] from .rows in
+rows-fit s counts nodes from r u₀ u n e holds h =
+    let w = rows-sound s counts nodes mostRows [] from (λ i l. absurd (omega arith)) in
+    let xs = rowsFrom s counts nodes mostRows [] from .rows in
     let k : n ≡ length xs = w .counted n e (sym (holds .answer) ∙ h) in (
       omega (arith, w .few),
       λ i l.
           let same : getD xs i (rowEntry 0 0 0) ≡ rowIn u i = ap (λ x. getD x i (rowEntry 0 0 0)) (sym (holds .rows)) ∙ firstOf-getD (rowIn u) (length xs) i (rowEntry 0 0 0) (omega arith) in
           rw same at (w .fit i (omega arith)),
     )
+
+-- the count that was answered is that of the rows
+pub rows-count : (s : List ℕ) (counts : ℕ → ℕ) (nodes from n e : ℕ) → rowsAt s counts nodes from .answer ≡ Value n e → n ≡ length (rowsAt s counts nodes from .rows)
+unfolding rowsAt Fit
+rows-count s counts nodes from n e h = rows-sound s counts nodes mostRows [] from (λ i l. absurd (omega arith)) .counted n e h

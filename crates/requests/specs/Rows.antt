@@ -39,12 +39,16 @@ rowsOf n u = firstOf (rowIn u) n
 unfoldable pub pastRows : ℕ → List ℕ → List ℕ
 pastRows n u = drop (3 * n) u
 
--- ---- reading, for a table t that holds so many nodes
+-- ---- reading, for a sheet of so many nodes, of which each has its count of branches
+
+-- as a table has them
+abbrev pub countIn : List ℕ → ℕ → ℕ
+countIn t n = nodeIn t n .count
 
 -- a row that document 01 allows: its node and branch are there, its rank is "1 to 65,535"
-pub record RowFits (t : List ℕ) (nodes : ℕ) (r : RowEntry) : Type 0 where
+pub record RowFits (counts : ℕ → ℕ) (nodes : ℕ) (r : RowEntry) : Type 0 where
   pub has-node : r .node < nodes
-  pub has-branch : r .branch < nodeIn t (r .node) .count
+  pub has-branch : r .branch < counts (r .node)
   pub has-rank : 1 ≤ r .rank
   pub rank-most : r .rank ≤ mostRank
 
@@ -56,12 +60,12 @@ pub record Rows : Type 0 where
 abbrev pub rowsWith : List RowEntry → Got → Rows
 rowsWith xs g = record { rows = xs; answer = g }
 
-module _ (s t : List ℕ) (nodes : ℕ) where
+module _ (s : List ℕ) (counts : ℕ → ℕ) (nodes : ℕ) where
   -- "lines `row`,node,branch,rank (1 to 65,535)": 6 where there is no such node, or it has no such branch
   unfoldable pub rowNumbersAt : ℕ → RowLine
   rowNumbersAt at =
       after line.Bad (belowAt s at nodes) λ n e.
-      after line.Bad (belowAt s e (nodeIn t n .count)) λ b f.
+      after line.Bad (belowAt s e (counts n)) λ b f.
       after line.Bad (betweenAt s f 1 mostRank) λ k q.
       after line.Bad (lineEndAt s q) λ v z. line.Row n b k z
 
@@ -78,14 +82,14 @@ withLine xs go (line.Row n b k e) = go (xs ++ (rowEntry n b k ∷ [])) e
 withLine xs go (line.Bad n p) = rowsWith xs (Bad n p)
 
 -- after the rows xs, with room for so many more
-unfoldable pub rowsFrom : List ℕ → List ℕ → ℕ → ℕ → List RowEntry → ℕ → Rows
-rowsFrom s t nodes zero xs at = cond (ltb at (length s)) (rowsWith xs (noRoomAt s at)) (rowsWith xs (Value (length xs) at))
-rowsFrom s t nodes (suc left) xs at =
-    cond (ltb at (length s)) (withLine xs (rowsFrom s t nodes left) (rowAt s t nodes at)) (rowsWith xs (Value (length xs) at))
+unfoldable pub rowsFrom : List ℕ → (ℕ → ℕ) → ℕ → ℕ → List RowEntry → ℕ → Rows
+rowsFrom s counts nodes zero xs at = cond (ltb at (length s)) (rowsWith xs (noRoomAt s at)) (rowsWith xs (Value (length xs) at))
+rowsFrom s counts nodes (suc left) xs at =
+    cond (ltb at (length s)) (withLine xs (rowsFrom s counts nodes left) (rowAt s counts nodes at)) (rowsWith xs (Value (length xs) at))
 
 -- "up to 512 lines `row`", from the position after the line of `check`
-unfoldable pub rowsAt : List ℕ → List ℕ → ℕ → ℕ → Rows
-rowsAt s t nodes at = rowsFrom s t nodes mostRows [] at
+unfoldable pub rowsAt : List ℕ → (ℕ → ℕ) → ℕ → ℕ → Rows
+rowsAt s counts nodes at = rowsFrom s counts nodes mostRows [] at
 
 -- the answer is what was read, and a buffer that was u₀ has become u: the rows "as given", and past them what it held
 pub record Holds (want : Rows) (r : Got) (u₀ u : List ℕ) : Type 0 where

@@ -11,9 +11,8 @@ ghost use mathlib.Core.Path.{_≡_};
 ghost use mathlib.Core.List.{[], _∷_, _++_};
 ghost use Prim.Native.Nat.{_+_, _≤_, _<_};
 ghost use lib.ListN.{length};
-ghost use Rattle.tables.specs.Entries.{nodeIn};
 ghost use Rattle.requests.specs.Part.{lastPartAt, makeAt, checkAt, playAt, participantAt, valueAt, pastValueAt, pastValuesAt};
-ghost use Rattle.requests.specs.Rows.{rowAt, rowNumbersAt, noRoomAt, rowsOf, pastRows, rowEntry, rowsAt, Holds};
+ghost use Rattle.requests.specs.Rows.{countIn, rowAt, rowNumbersAt, noRoomAt, rowsOf, pastRows, rowEntry, rowsAt, Holds};
 
 const MAKE: usize = ((b'm' as usize * 256 + b'a' as usize) * 256 + b'k' as usize) * 256
     + b'e' as usize;
@@ -196,7 +195,7 @@ pub fn last_part(s: &[u8], at: usize, people: usize, secrets: usize) -> Part
 pub fn branch_count(t: &[usize], node: usize) -> usize
     requires { ⌜ 52072 ≤ length (now t) ⌝ }
     requires { ⌜ node < 512 ⌝ }
-    ensures { λ r. ⌜ r ≡ nodeIn (now (t .entry)) node .count ⌝ }
+    ensures { λ r. ⌜ r ≡ countIn (now (t .entry)) node ⌝ }
 {
     t[Sheet::NODES_AT + 3 + 4 * node]
 }
@@ -205,7 +204,7 @@ pub fn branch_count(t: &[usize], node: usize) -> usize
 fn row_numbers(s: &[u8], at: usize, t: &[usize], nodes: usize) -> RowLine
     requires { ⌜ 52072 ≤ length (now t) ⌝ }
     requires { ⌜ nodes ≤ 512 ⌝ }
-    ensures { λ r. ⌜ r ≡ rowNumbersAt (now (s .entry)) (now (t .entry)) nodes at ⌝ }
+    ensures { λ r. ⌜ r ≡ rowNumbersAt (now (s .entry)) (countIn (now (t .entry))) nodes at ⌝ }
 {
     let g = number_below(s, at, nodes);
     match g {
@@ -237,7 +236,7 @@ fn row_numbers(s: &[u8], at: usize, t: &[usize], nodes: usize) -> RowLine
 fn row_line(s: &[u8], at: usize, t: &[usize], nodes: usize) -> RowLine
     requires { ⌜ 52072 ≤ length (now t) ⌝ }
     requires { ⌜ nodes ≤ 512 ⌝ }
-    ensures { λ r. ⌜ r ≡ rowAt (now (s .entry)) (now (t .entry)) nodes at ⌝ }
+    ensures { λ r. ⌜ r ≡ rowAt (now (s .entry)) (countIn (now (t .entry))) nodes at ⌝ }
 {
     let g = first(s, at);
     match g {
@@ -283,7 +282,7 @@ pub fn rows(s: &[u8], from: usize, t: &[usize], nodes: usize, buffer: &mut [usiz
     requires { ⌜ 52072 ≤ length (now t) ⌝ }
     requires { ⌜ nodes ≤ 512 ⌝ }
     requires { ⌜ 1536 ≤ length (now buffer) ⌝ }
-    ensures { λ r. ⌜ Holds (rowsAt (now (s .entry)) (now (t .entry)) nodes from) r (now (buffer .entry)) (now (buffer .exit)) ⌝ }
+    ensures { λ r. ⌜ Holds (rowsAt (now (s .entry)) (countIn (now (t .entry))) nodes from) r (now (buffer .entry)) (now (buffer .exit)) ⌝ }
 {
     let mut at = from;
     let mut i = 0;

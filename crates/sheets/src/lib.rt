@@ -13,15 +13,6 @@ ghost use Rattle.tables.specs.Entries.{held, people};
 ghost use Rattle.tables.specs.SheetOf.{nodeEntryAt, branchEntryAt, defEntryAt, listedAt, cellAt, branchCount, branchNumber, partCount, partNumber, depositOf, ownerOf, branchOf, sheetIn};
 ghost use Rattle.sheets.specs.Ready.{Ready, Indexed};
 
-// The table's header: how many there are of each.
-const PEOPLE: usize = 0;
-
-const DEFS: usize = 1;
-
-const NODES: usize = 2;
-
-const BRANCHES: usize = 3;
-
 // Where the numbers of the first node stand in a table, of the first branch, of the first definition.
 const NODE_DEFINITION: usize = Sheet::NODES_AT;
 
@@ -68,29 +59,36 @@ pub fn people(t: &[usize]) -> usize
     requires { ⌜ Ready (now t) ⌝ }
     ensures { λ r. ⌜ r ≡ people (now (t .entry)) ⌝ }
 {
-    t[PEOPLE]
+    t[Sheet::PARTICIPANTS_CELL]
 }
 
-// How many definitions, nodes, branches.
+// How many definitions, nodes, branches, cells of conditions.
 pub fn def_total(t: &[usize]) -> usize
     requires { ⌜ Ready (now t) ⌝ }
     ensures { λ r. ⌜ r ≡ length (held (now (t .entry)) .defs) ⌝ }
 {
-    t[DEFS]
+    t[Sheet::DEFS_CELL]
 }
 
 pub fn node_total(t: &[usize]) -> usize
     requires { ⌜ Ready (now t) ⌝ }
     ensures { λ r. ⌜ r ≡ length (held (now (t .entry)) .nodes) ⌝ }
 {
-    t[NODES]
+    t[Sheet::NODES_CELL]
 }
 
 pub fn branch_total(t: &[usize]) -> usize
     requires { ⌜ Ready (now t) ⌝ }
     ensures { λ r. ⌜ r ≡ length (held (now (t .entry)) .branches) ⌝ }
 {
-    t[BRANCHES]
+    t[Sheet::BRANCHES_CELL]
+}
+
+pub fn cell_total(t: &[usize]) -> usize
+    requires { ⌜ Ready (now t) ⌝ }
+    ensures { λ r. ⌜ r ≡ length (held (now (t .entry)) .cells) ⌝ }
+{
+    t[Sheet::CELLS_CELL]
 }
 
 pub fn node_definition(t: &[usize], n: usize) -> usize

@@ -5,13 +5,13 @@ use native.Mathlib.Omega.{arith}
 use lib.ListN.{length}
 use borrow.Author.Needs.{needs}
 use Rattle.requests.proofs.Laws.{rows-on, rows-bad, rest-more, rows-end, rows-full, rows-length, holds}
-use Rattle.requests.specs.Rows.{pastRows, mostRows, rowsOf, rowsFrom, rowsAt}
+use Rattle.requests.specs.Rows.{countIn, pastRows, mostRows, rowsOf, rowsFrom, rowsAt}
 use Rattle.tables.specs.Entries.{firstOf}
 use Rattle.requests.proofs.rows.Statement.{statement}
 use Rattle.requests.proofs.rows.Tie as tie
 
 abbrev Inv-loop : tie.InvT-loop
-Inv-loop s from t nodes buffer₀ at₀ i₀ buffer at i = (i ≤ mostRows) × (length buffer ≡ length buffer₀) × (pastRows i buffer ≡ pastRows i buffer₀) × (rowsFrom s t nodes (mostRows - i) (rowsOf i buffer) at ≡ rowsFrom s t nodes mostRows [] from)
+Inv-loop s from t nodes buffer₀ at₀ i₀ buffer at i = (i ≤ mostRows) × (length buffer ≡ length buffer₀) × (pastRows i buffer ≡ pastRows i buffer₀) × (rowsFrom s (countIn t) nodes (mostRows - i) (rowsOf i buffer) at ≡ rowsFrom s (countIn t) nodes mostRows [] from)
 
 abbrev μ-loop : tie.MeasureT-loop
 μ-loop s from t nodes buffer₀ at₀ i₀ buffer at i = mostRows - i

@@ -1,0 +1,5 @@
+pub mod Costing
+pub mod Ranking
+pub mod Queue
+pub mod Reaching
+pub mod Buffer

@@ -1,0 +1,53 @@
+-- The answer and the row buffer, by what the published rule makes. Assumes nothing.
+use Prim.Native.Nat.{ℕ, _+_, _-_, _*_}
+use mathlib.Core.Bool.{Bool}
+use mathlib.Core.List.{List, [], _∷_, _++_, map}
+use lib.ListN.{length, getD, set, replicate}
+use lib.Dec.{eqb, ltb}
+use Rattle.bitml.specs.Lists.{_&_, keep, below}
+use Rattle.bitml.specs.Rows.{Row, rankOf}
+use Rattle.bitml.specs.Rule as rule
+use Rattle.bitml.specs.Rule.{liquid, frozen}
+use Rattle.exits.specs.declared.Verdict.{Verdict}
+use Rattle.exits.specs.declared.Verdict.the-variants.{Liquid, Frozen}
+
+-- Three numbers for each row: node, branch, rank
+unfoldable pub flat : List Row → List ℕ
+flat [] = []
+flat (r ∷ R) = r .node ∷ r .branch ∷ r .rank ∷ flat R
+
+-- "The row buffer holds the rows .. and is zero past them": a buffer of n numbers
+unfoldable pub filled : ℕ → List Row → List ℕ
+filled n R = flat R ++ replicate (n - 3 * length R) 0
+
+-- "`liquid` has participant, rows, rank of node 0; `frozen` has participant, node"
+unfoldable pub answerOf : rule.Verdict → Verdict
+answerOf (liquid R) = Liquid (length R) (rankOf R 0)
+answerOf (frozen n) = Frozen n
+
+-- "it is wholly zero after .. `frozen`"
+unfoldable pub bufferOf : ℕ → rule.Verdict → List ℕ
+bufferOf n (liquid R) = filled n R
+bufferOf n (frozen m) = filled n []
+
+-- ---- by the work arrays: marks M, ranks R, chosen branches B
+
+unfoldable pub stuckBy : List ℕ → List ℕ → ℕ → Bool
+stuckBy M R n = ltb 0 (getD M n 0) & eqb (getD R n 0) 0
+
+abbrev pub firstOr : ℕ → List ℕ → ℕ
+firstOr n [] = n
+firstOr n (m ∷ ms) = m
+
+unfoldable pub markedBy : List ℕ → ℕ → Bool
+markedBy M n = ltb 0 (getD M n 0)
+
+unfoldable pub rowBy : List ℕ → List ℕ → ℕ → Row
+rowBy R B n = record { node = n; branch = getD B n 0; rank = getD R n 0 }
+
+unfoldable pub rowsBy : List ℕ → List ℕ → List ℕ → ℕ → List Row
+rowsBy M R B n = map (rowBy R B) (keep (markedBy M) (below n))
+
+-- Row j stored
+abbrev pub put : List ℕ → ℕ → ℕ → ℕ → ℕ → List ℕ
+put xs j a b c = set (set (set xs (3 * j) a) (3 * j + 1) b) (3 * j + 2) c

@@ -1,0 +1,403 @@
+// Ranks, reached nodes, and the published rows.
+use sheets::branch_arg;
+use sheets::branch_count;
+use sheets::branch_kind;
+use sheets::branch_of;
+use sheets::def_root;
+use sheets::mask_of;
+use sheets::node_definition;
+use sheets::node_total;
+use sheets::own;
+use sheets::part_count;
+use sheets::part_of;
+use tables::Action;
+use tables::Sheet;
+ghost use mathlib.Core.Path.{_≡_};
+ghost use mathlib.Core.Bool.{true, cond};
+ghost use mathlib.Core.List.{[]};
+ghost use Prim.Native.Nat.{ℕ, _+_, _*_, _^_, _≤_, _<_};
+ghost use lib.Dec.{eqb};
+ghost use lib.ListN.{length, getD};
+ghost use Rattle.bitml.specs.Lists.{keep, below};
+ghost use Rattle.bitml.specs.Sheet.{parts};
+ghost use Rattle.bitml.specs.Rule as rule;
+ghost use Rattle.tables.specs.Entries.{held, people};
+ghost use Rattle.tables.specs.SheetOf.{branchEntryAt, branchCount, branchNumber, partNumbers, branchOf, sheetIn};
+ghost use Rattle.sheets.specs.Ready.{Ready, Indexed};
+ghost use Rattle.exits.specs.Costs.{ranksAt, served, branchCost, Ranked, asChoice, chosenFrom};
+ghost use Rattle.exits.specs.Marks.{Ranks, DefReached, Marked, Grown, BranchLed, NodeLed, DefLed, Spread, MarksReached};
+ghost use Rattle.exits.specs.Made.{answerOf, bufferOf, filled, stuckBy, firstOr, rowsBy, put};
+
+pub struct Choice {
+    pub branch: usize,
+    pub rank: usize,
+}
+
+pub enum Verdict {
+    // how many rows, and the rank of node 0
+    Liquid(usize, usize),
+    // the lowest reached node that has no exit
+    Frozen(usize),
+}
+
+// One more than the ranks of the parts of branch b; 0 where a part has none.
+fn served(t: &[usize], ranks: &[usize; Sheet::NODES], b: usize, x: &[usize]) -> usize
+    requires { ⌜ Ready (now t) ⌝ }
+    requires { ⌜ b < length (held (now t) .branches) ⌝ }
+    requires { ⌜ Ranked (now ranks) (partNumbers (held (now t)) b) ⌝ }
+    requires { ⌜ Indexed (held (now t)) (now x) ⌝ }
+    ensures { λ r. ⌜ r ≡ served 1 (ranksAt (now (ranks .entry)) (partNumbers (held (now (t .entry))) b)) ⌝ }
+{
+    let count = part_count(t, x, b);
+    let mut acc: usize = 1;
+    let mut i = 0;
+    while i < count {
+        let m = part_of(t, x, b, i);
+        let k = ranks[m];
+        if k == 0 {
+            return 0;
+        }
+        acc = acc + k;
+        i += 1;
+    }
+    acc
+}
+
+// The rank of node n by branch b: 0 where the branch is not own or a contract in it has no exit.
+fn cost(
+    t: &[usize],
+    p: usize,
+    mask: usize,
+    n: usize,
+    b: usize,
+    ranks: &[usize; Sheet::NODES],
+    x: &[usize],
+) -> usize
+    requires { ⌜ Ready (now t) ⌝ }
+    requires { ⌜ (mask ≡ 2 ^ p) × (n < length (held (now t) .nodes)) × (b < length (held (now t) .branches)) ⌝ }
+    requires { ⌜ Ranked (now ranks) (parts (branchOf (held (now t)) b .action)) ⌝ }
+    requires { ⌜ Indexed (held (now t)) (now x) ⌝ }
+    ensures { λ r. ⌜ r ≡ branchCost (people (now (t .entry))) (held (now (t .entry))) p n b (now (ranks .entry)) ⌝ }
+{
+    if own(t, p, mask, n, b) {
+        let kind = branch_kind(t, b);
+        if kind == Action::WITHDRAW {
+            return 1;
+        }
+        if kind == Action::SPLIT {
+            return served(t, ranks, b, x);
+        }
+        let m = branch_arg(t, b);
+        let k = ranks[m];
+        if k == 0 {
+            return 0;
+        }
+        return k + 1;
+    }
+    0
+}
+
+fn better(k: usize, b: usize, c: Choice) -> Choice
+    ensures { λ r. ⌜ asChoice r ≡ rule.better k b (asChoice c) ⌝ }
+{
+    if k == 0 {
+        return c;
+    }
+    if c.rank == 0 {
+        return Choice { branch: b, rank: k };
+    }
+    if k <= c.rank {
+        return Choice { branch: b, rank: k };
+    }
+    c
+}
+
+// The least rank of node n over its branches, and the first branch with it.
+fn choose(
+    t: &[usize],
+    p: usize,
+    mask: usize,
+    n: usize,
+    ranks: &[usize; Sheet::NODES],
+    x: &[usize],
+) -> Choice
+    requires { ⌜ Ready (now t) ⌝ }
+    requires { ⌜ (mask ≡ 2 ^ p) × (n < length (held (now t) .nodes)) ⌝ }
+    requires { ⌜ ((i : ℕ) → i < branchCount (held (now t)) n → Ranked (now ranks) (parts (branchOf (held (now t)) (branchNumber (held (now t)) n i) .action))) ⌝ }
+    requires { ⌜ Indexed (held (now t)) (now x) ⌝ }
+    ensures { λ r. ⌜ asChoice r ≡ chosenFrom (people (now (t .entry))) (held (now (t .entry))) p n (now (ranks .entry)) 0 (branchCount (held (now (t .entry))) n) ⌝ }
+{
+    let mut i = branch_count(t, n);
+    let mut best = Choice { branch: 0, rank: 0 };
+    while 0 < i {
+        i = i - 1;
+        let b = branch_of(t, x, n, i);
+        let k = cost(t, p, mask, n, b, ranks, x);
+        best = better(k, i, best);
+    }
+    best
+}
+
+// The ranks and the chosen branches of all nodes, from the last to the first.
+fn rank_all(
+    t: &[usize],
+    p: usize,
+    mask: usize,
+    ranks: &mut [usize; Sheet::NODES],
+    branches: &mut [usize; Sheet::NODES],
+    x: &[usize],
+)
+    requires { ⌜ Ready (now t) ⌝ }
+    requires { ⌜ (mask ≡ 2 ^ p) × (length (now ranks) ≡ 512) × (length (now branches) ≡ 512) ⌝ }
+    requires { ⌜ Indexed (held (now t)) (now x) ⌝ }
+    ensures { λ _. ⌜ Ranks (people (now (t .entry))) (held (now (t .entry))) p (now (ranks .exit)) (now (branches .exit)) 0 ⌝ }
+{
+    let mut n = node_total(t);
+    while 0 < n {
+        n = n - 1;
+        let c = choose(t, p, mask, n, ranks, x);
+        ranks[n] = c.rank;
+        branches[n] = c.branch;
+    }
+}
+
+// Marks definition d and puts it into the queue, if it has no mark yet; the count of marked definitions comes back.
+fn visit(
+    t: &[usize],
+    seen: &mut [usize; Sheet::DEFS],
+    queue: &mut [usize; Sheet::DEFS],
+    tail: usize,
+    d: usize,
+) -> usize
+    requires { ⌜ Ready (now t) ⌝ }
+    requires { ⌜ Marked (people (now t)) (held (now t)) (now seen) (now queue) tail ⌝ }
+    requires { ⌜ DefReached (people (now t)) (held (now t)) d ⌝ }
+    ensures { λ r. ⌜ Marked (people (now (t .entry))) (held (now (t .entry))) (now (seen .exit)) (now (queue .exit)) r ⌝ }
+    ensures { λ r. ⌜ Grown (now (seen .entry)) (now (seen .exit)) ⌝ }
+    ensures { λ r. ⌜ 0 < getD (now (seen .exit)) d 0 ⌝ }
+{
+    if seen[d] != 0 {
+        return tail;
+    }
+    queue[tail] = d;
+    seen[d] = tail + 1;
+    tail + 1
+}
+
+// Visits the definition that branch b, of a reached node, renews as.
+fn visit_branch(
+    t: &[usize],
+    seen: &mut [usize; Sheet::DEFS],
+    queue: &mut [usize; Sheet::DEFS],
+    tail: usize,
+    b: usize,
+) -> usize
+    requires { ⌜ Ready (now t) ⌝ }
+    requires { ⌜ Marked (people (now t)) (held (now t)) (now seen) (now queue) tail ⌝ }
+    requires { ⌜ b < length (held (now t) .branches) ⌝ }
+    requires { ⌜ (branchEntryAt (held (now t)) b .kind ≡ 3 → DefReached (people (now t)) (held (now t)) (branchEntryAt (held (now t)) b .arg)) ⌝ }
+    ensures { λ r. ⌜ Marked (people (now (t .entry))) (held (now (t .entry))) (now (seen .exit)) (now (queue .exit)) r ⌝ }
+    ensures { λ r. ⌜ Grown (now (seen .entry)) (now (seen .exit)) ⌝ }
+    ensures { λ r. ⌜ BranchLed (held (now (t .entry))) (now (seen .exit)) b ⌝ }
+{
+    if branch_kind(t, b) != Action::RENEW {
+        return tail;
+    }
+    let d = branch_arg(t, b);
+    visit(t, seen, queue, tail, d)
+}
+
+// Visits what the branches of node n renew as.
+fn visit_node(
+    t: &[usize],
+    seen: &mut [usize; Sheet::DEFS],
+    queue: &mut [usize; Sheet::DEFS],
+    tail: usize,
+    n: usize,
+    x: &[usize],
+) -> usize
+    requires { ⌜ Ready (now t) ⌝ }
+    requires { ⌜ Marked (people (now t)) (held (now t)) (now seen) (now queue) tail ⌝ }
+    requires { ⌜ (n < length (held (now t) .nodes)) × (rule.reached (sheetIn (now t)) n ≡ true) ⌝ }
+    requires { ⌜ Indexed (held (now t)) (now x) ⌝ }
+    ensures { λ r. ⌜ Marked (people (now (t .entry))) (held (now (t .entry))) (now (seen .exit)) (now (queue .exit)) r ⌝ }
+    ensures { λ r. ⌜ Grown (now (seen .entry)) (now (seen .exit)) ⌝ }
+    ensures { λ r. ⌜ NodeLed (held (now (t .entry))) (now (seen .exit)) n (branchCount (held (now (t .entry))) n) ⌝ }
+{
+    let count = branch_count(t, n);
+    let mut end = tail;
+    let mut i = 0;
+    while i < count {
+        let b = branch_of(t, x, n, i);
+        end = visit_branch(t, seen, queue, end, b);
+        i += 1;
+    }
+    end
+}
+
+// Visits what the nodes of definition d renew as: they stand one behind the other, the root first.
+fn visit_def(
+    t: &[usize],
+    seen: &mut [usize; Sheet::DEFS],
+    queue: &mut [usize; Sheet::DEFS],
+    tail: usize,
+    d: usize,
+    x: &[usize],
+) -> usize
+    requires { ⌜ Ready (now t) ⌝ }
+    requires { ⌜ Marked (people (now t)) (held (now t)) (now seen) (now queue) tail ⌝ }
+    requires { ⌜ DefReached (people (now t)) (held (now t)) d ⌝ }
+    requires { ⌜ Indexed (held (now t)) (now x) ⌝ }
+    ensures { λ r. ⌜ Marked (people (now (t .entry))) (held (now (t .entry))) (now (seen .exit)) (now (queue .exit)) r ⌝ }
+    ensures { λ r. ⌜ Grown (now (seen .entry)) (now (seen .exit)) ⌝ }
+    ensures { λ r. ⌜ DefLed (held (now (t .entry))) (now (seen .exit)) d 0 (length (held (now (t .entry)) .nodes)) ⌝ }
+{
+    let total = node_total(t);
+    let mut n = def_root(t, d);
+    let mut end = tail;
+    while n < total {
+        if node_definition(t, n) != d {
+            return end;
+        }
+        end = visit_node(t, seen, queue, end, n, x);
+        n += 1;
+    }
+    end
+}
+
+// Each node gets the mark of its definition.
+fn spread(t: &[usize], seen: &[usize; Sheet::DEFS], marks: &mut [usize; Sheet::NODES])
+    requires { ⌜ Ready (now t) ⌝ }
+    requires { ⌜ Spread (held (now t)) (now seen) (now marks) 0 ⌝ }
+    ensures { λ _. ⌜ Spread (held (now (t .entry))) (now (seen .entry)) (now (marks .exit)) (length (held (now (t .entry)) .nodes)) ⌝ }
+{
+    let total = node_total(t);
+    let mut n = 0;
+    while n < total {
+        let d = node_definition(t, n);
+        marks[n] = seen[d];
+        n += 1;
+    }
+}
+
+// Marks the reached nodes.
+fn reach(
+    t: &[usize],
+    seen: &mut [usize; Sheet::DEFS],
+    queue: &mut [usize; Sheet::DEFS],
+    marks: &mut [usize; Sheet::NODES],
+    x: &[usize],
+)
+    requires { ⌜ Ready (now t) ⌝ }
+    requires { ⌜ Marked (people (now t)) (held (now t)) (now seen) (now queue) 0 ⌝ }
+    requires { ⌜ (length (now marks) ≡ 512) × ((m : ℕ) → getD (now marks) m 0 ≡ 0) ⌝ }
+    requires { ⌜ Indexed (held (now t)) (now x) ⌝ }
+    ensures { λ _. ⌜ MarksReached (people (now (t .entry))) (held (now (t .entry))) (now (marks .exit)) ⌝ }
+{
+    let mut end = visit(t, seen, queue, 0, 0);
+    let mut head = 0;
+    while head < end {
+        let d = queue[head];
+        end = visit_def(t, seen, queue, end, d, x);
+        head += 1;
+    }
+    spread(t, seen, marks);
+}
+
+fn clear(rows: &mut [usize])
+    ensures { λ _. ⌜ now (rows .exit) ≡ filled (length (now (rows .entry))) [] ⌝ }
+{
+    let mut i = 0;
+    while i < rows.len() {
+        rows[i] = 0;
+        i += 1;
+    }
+}
+
+// The lowest of the first n nodes that has a mark and no rank; n where there is none.
+fn first_stuck(marks: &[usize; Sheet::NODES], ranks: &[usize; Sheet::NODES], n: usize) -> usize
+    requires { ⌜ n ≤ 512 ⌝ }
+    ensures { λ r. ⌜ r ≡ firstOr n (keep (stuckBy (now (marks .entry)) (now (ranks .entry))) (below n)) ⌝ }
+{
+    let mut i = 0;
+    while i < n {
+        if marks[i] != 0 {
+            if ranks[i] == 0 {
+                return i;
+            }
+        }
+        i += 1;
+    }
+    n
+}
+
+// Row j, if there is a mark; the count of rows comes back.
+fn put_row(
+    rows: &mut [usize],
+    j: usize,
+    mark: usize,
+    node: usize,
+    branch: usize,
+    rank: usize,
+) -> usize
+    requires { ⌜ 3 * j + 3 ≤ length (now rows) ⌝ }
+    ensures { λ r. ⌜ r ≡ cond (eqb mark 0) j (j + 1) ⌝ }
+    ensures { λ r. ⌜ now (rows .exit) ≡ cond (eqb mark 0) (now (rows .entry)) (put (now (rows .entry)) j node branch rank) ⌝ }
+{
+    if mark == 0 {
+        return j;
+    }
+    rows[3 * j] = node;
+    rows[3 * j + 1] = branch;
+    rows[3 * j + 2] = rank;
+    j + 1
+}
+
+// The rows of the marked nodes among the first n.
+fn put_rows<'a>(
+    marks: &'a [usize; Sheet::NODES],
+    ranks: &'a [usize; Sheet::NODES],
+    branches: &'a [usize; Sheet::NODES],
+    n: usize,
+    rows: &mut [usize],
+) -> usize
+    requires { ⌜ (n ≤ 512) × (1536 ≤ length (now rows)) ⌝ }
+    requires { ⌜ now rows ≡ filled (length (now rows)) [] ⌝ }
+    ensures { λ r. ⌜ r ≡ length (rowsBy (now (marks .entry)) (now (ranks .entry)) (now (branches .entry)) n) ⌝ }
+    ensures { λ r. ⌜ now (rows .exit) ≡ filled (length (now (rows .entry))) (rowsBy (now (marks .entry)) (now (ranks .entry)) (now (branches .entry)) n) ⌝ }
+{
+    let mut i = 0;
+    let mut j = 0;
+    while i < n {
+        j = put_row(rows, j, marks[i], i, branches[i], ranks[i]);
+        i += 1;
+    }
+    j
+}
+
+// Whether the sheet is liquid for p: the published rows, or the lowest reached node that has no exit. The rows stand in the buffer,
+// three numbers each.
+pub fn make(t: &[usize], p: usize, rows: &mut [usize], x: &[usize]) -> Verdict
+    requires { ⌜ Ready (now t) ⌝ }
+    requires { ⌜ (p < people (now t)) × (1536 ≤ length (now rows)) ⌝ }
+    requires { ⌜ Indexed (held (now t)) (now x) ⌝ }
+    ensures { λ r. ⌜ r ≡ answerOf (rule.make (sheetIn (now (t .entry))) p) ⌝ }
+    ensures { λ r. ⌜ now (rows .exit) ≡ bufferOf (length (now (rows .entry))) (rule.make (sheetIn (now (t .entry))) p) ⌝ }
+{
+    let mask = mask_of(p);
+    let mut ranks = [0usize; Sheet::NODES];
+    let mut branches = [0usize; Sheet::NODES];
+    let mut marks = [0usize; Sheet::NODES];
+    let mut seen = [0usize; Sheet::DEFS];
+    let mut queue = [0usize; Sheet::DEFS];
+    rank_all(t, p, mask, &mut ranks, &mut branches, x);
+    reach(t, &mut seen, &mut queue, &mut marks, x);
+    clear(rows);
+    let n = node_total(t);
+    let bad = first_stuck(&marks, &ranks, n);
+    if bad < n {
+        return Verdict::Frozen(bad);
+    }
+    let count = put_rows(&marks, &ranks, &branches, n, rows);
+    Verdict::Liquid(count, ranks[0])
+}

@@ -1,0 +1,1 @@
+// What reading promises of each entry: its numbers lie within their ranges.

@@ -1,0 +1,1 @@
+// The trees that a sheet lists.

@@ -1,0 +1,1624 @@
+//! A generator of requests for document 01: valid ones of every shape, `make`, `check` and `play`,
+//! and damaged ones.  The same seed always gives the same requests.
+//!
+//! Use: `Generator::new(seed)` is an endless iterator of requests (bytes).  The module stands
+//! beside `model` (it uses the model's reader, rows and ledger to make rows that are accepted and
+//! events that are taken).
+
+use super::model::{self, Action, Event, LastPart, Ledger, Request, Sheet, Value};
+
+// ---------------------------------------------------------------------------------------------
+// Chance
+// ---------------------------------------------------------------------------------------------
+
+/// SplitMix64.
+#[derive(Clone)]
+pub struct Random {
+    state: u64,
+}
+
+impl Random {
+    pub fn new(seed: u64) -> Random {
+        Random { state: seed }
+    }
+
+    pub fn next(&mut self) -> u64 {
+        self.state = self.state.wrapping_add(0x9E37_79B9_7F4A_7C15);
+        let mut z = self.state;
+        z = (z ^ (z >> 30)).wrapping_mul(0xBF58_476D_1CE4_E5B9);
+        z = (z ^ (z >> 27)).wrapping_mul(0x94D0_49BB_1331_11EB);
+        z ^ (z >> 31)
+    }
+
+    /// A number below `bound` (which is not 0).
+    pub fn below(&mut self, bound: usize) -> usize {
+        (self.next() % bound as u64) as usize
+    }
+
+    /// A number from `least` to `most`, both counted in.
+    pub fn between(&mut self, least: usize, most: usize) -> usize {
+        least + self.below(most - least + 1)
+    }
+
+    /// True in `percent` of 100 cases.
+    pub fn chance(&mut self, percent: usize) -> bool {
+        self.below(100) < percent
+    }
+
+    pub fn pick<T: Clone>(&mut self, things: &[T]) -> T {
+        things[self.below(things.len())].clone()
+    }
+
+    /// An index, each as likely as its weight says (not all weights are 0).
+    pub fn weighted(&mut self, weights: &[usize]) -> usize {
+        let mut left = self.below(weights.iter().sum());
+        for (index, weight) in weights.iter().enumerate() {
+            if left < *weight {
+                return index;
+            }
+            left -= weight;
+        }
+        unreachable!("a number below the sum of the weights")
+    }
+
+    pub fn shuffle<T>(&mut self, things: &mut [T]) {
+        for last in (1..things.len()).rev() {
+            let other = self.below(last + 1);
+            things.swap(last, other);
+        }
+    }
+}
+
+// ---------------------------------------------------------------------------------------------
+// Drafts: requests as lines of fields
+// ---------------------------------------------------------------------------------------------
+
+/// What a field is for, so that damage can aim at it.
+#[derive(Clone, Copy, Debug, PartialEq, Eq)]
+pub enum Role {
+    Word,
+    Count,
+    Deposit,
+    Participant,
+    Signers,
+    Opening,
+    Weight,
+    Secret,
+    Constant,
+    Definition,
+    Node,
+    Branch,
+    Rank,
+    Value,
+    Delay,
+    Index,
+}
+
+#[derive(Clone, Debug)]
+pub struct Field {
+    pub text: String,
+    pub role: Role,
+}
+
+fn word(text: &str) -> Field {
+    Field {
+        text: text.to_string(),
+        role: Role::Word,
+    }
+}
+
+fn number(number: u64, role: Role) -> Field {
+    Field {
+        text: number.to_string(),
+        role,
+    }
+}
+
+/// A request as lines of fields.
+#[derive(Clone, Debug, Default)]
+pub struct Draft {
+    pub lines: Vec<Vec<Field>>,
+}
+
+impl Draft {
+    pub fn bytes(&self) -> Vec<u8> {
+        let mut bytes = Vec::new();
+        for line in &self.lines {
+            for (place, field) in line.iter().enumerate() {
+                if place > 0 {
+                    bytes.push(b',');
+                }
+                bytes.extend_from_slice(field.text.as_bytes());
+            }
+            bytes.push(b'\n');
+        }
+        bytes
+    }
+
+    pub fn length(&self) -> usize {
+        self.lines.iter().map(|line| line_length(line)).sum()
+    }
+}
+
+/// The bytes of a line, its commas and LF counted.
+fn line_length(line: &[Field]) -> usize {
+    line.iter()
+        .map(|field| field.text.len() + 1)
+        .sum::<usize>()
+        .max(1)
+}
+
+// ---------------------------------------------------------------------------------------------
+// Sheets
+// ---------------------------------------------------------------------------------------------
+
+/// How a sheet grows.
+#[derive(Clone)]
+struct Shape {
+    participants: usize,
+    definitions: usize,
+    /// Most nodes, branches and bytes that growth may use.
+    nodes: usize,
+    branches: usize,
+    bytes: usize,
+    depth: usize,
+    /// Least and most branches of a contract.
+    least: usize,
+    most: usize,
+    parts: usize,
+    secrets: usize,
+    /// Weights of the actions w, s, r, g.
+    actions: [usize; 4],
+    /// Percent of the conditions that are the one field `t`.
+    plain: usize,
+    condition: usize,
+    /// Percent of the branches that need no signer; of the rest half need the favourite alone.
+    unsigned: usize,
+    /// Percent of secrets that the favourite owns.
+    favour: usize,
+    /// Percent of branches that open at 0.
+    open: usize,
+    /// Percent of deposits that are large.
+    rich: usize,
+    /// Does each contract get a branch that is own to the favourite?  Then the sheet is liquid
+    /// for the favourite.
+    easy: bool,
+}
+
+impl Shape {
+    fn random(random: &mut Random) -> Shape {
+        let mut shape = Shape {
+            participants: random.between(1, 4),
+            definitions: 1,
+            nodes: random.between(1, 30),
+            branches: 100,
+            bytes: 20_000,
+            depth: random.between(1, 8),
+            least: 1,
+            most: random.between(1, 4),
+            parts: random.between(1, 4),
+            secrets: random.between(0, 4),
+            actions: [4, 3, 4, 0],
+            plain: random.pick(&[30, 60, 95, 100]),
+            condition: random.between(2, 20),
+            unsigned: random.pick(&[30, 70, 95, 100]),
+            favour: random.pick(&[40, 80, 100]),
+            open: random.pick(&[20, 70, 95]),
+            rich: random.pick(&[0, 10, 60]),
+            easy: random.chance(60),
+        };
+        match random.below(9) {
+            // Small and plain.
+            0 => {}
+            // Deep.
+            1 => {
+                shape.nodes = random.between(20, 120);
+                shape.depth = random.between(20, 32);
+                shape.most = 2;
+                shape.parts = 2;
+                shape.actions = [1, 4, 5, 0];
+            }
+            // Wide.
+            2 => {
+                shape.nodes = random.between(40, 200);
+                shape.branches = 600;
+                shape.least = 2;
+                shape.most = 16;
+                shape.parts = 8;
+                shape.actions = [3, 5, 2, 0];
+            }
+            // Many definitions that renew as one another.
+            3 => {
+                shape.definitions = random.between(2, 32);
+                shape.nodes = shape.definitions + random.between(0, 60);
+                shape.branches = 300;
+                shape.actions = [3, 2, 2, 4];
+            }
+            // A few definitions, renewed often, for long plays.
+            4 => {
+                shape.definitions = random.between(1, 4);
+                shape.least = 2;
+                shape.actions = [1, 3, 1, 6];
+                shape.parts = random.between(2, 8);
+                shape.open = 95;
+            }
+            // Secrets and nested conditions.
+            5 => {
+                shape.secrets = random.between(1, 8);
+                shape.actions = [2, 1, 8, 0];
+                shape.plain = 20;
+                shape.condition = random.between(4, 64);
+                shape.definitions = random.between(1, 3);
+                shape.nodes = random.between(5, 60);
+            }
+            // Many participants, many signers.
+            6 => {
+                shape.participants = random.between(5, 16);
+                shape.unsigned = random.pick(&[20, 60, 90]);
+            }
+            // Splits and renewals that nothing hinders: plays that make many contracts.
+            7 => {
+                shape.definitions = random.between(1, 3);
+                shape.nodes = random.between(40, 512);
+                shape.branches = 1_024;
+                shape.depth = random.between(3, 10);
+                shape.most = random.between(1, 2);
+                shape.parts = random.between(3, 8);
+                shape.actions = [0, 6, 1, 3];
+                shape.open = 99;
+                shape.unsigned = 98;
+                shape.rich = 0;
+            }
+            // Large.
+            _ => {
+                shape.definitions = random.between(1, 8);
+                shape.nodes = 512;
+                shape.branches = 1_024;
+                shape.bytes = 32_000;
+                shape.depth = 32;
+                shape.most = random.between(2, 8);
+                shape.parts = 8;
+                shape.actions = [2, 6, 3, 1];
+                shape.condition = 12;
+                shape.secrets = random.between(1, 8);
+            }
+        }
+        shape.nodes = shape.nodes.max(shape.definitions);
+        shape
+    }
+}
+
+/// Grows the lines of a sheet.
+struct Grower<'r> {
+    random: &'r mut Random,
+    shape: Shape,
+    favourite: usize,
+    lines: Vec<Vec<Field>>,
+    line: Vec<Field>,
+    /// Nodes and branches that nobody has reserved yet.
+    nodes_left: usize,
+    branches_left: usize,
+    bytes: usize,
+    /// Count of secrets of the definition in hand, and those that the favourite owns.
+    secrets: usize,
+    favoured: Vec<usize>,
+    /// In contracts of an exact size: one split each, so that a run can make nearly all of them.
+    narrow: bool,
+}
+
+impl Grower<'_> {
+    fn put(&mut self, field: Field) {
+        self.bytes += field.text.len() + 1;
+        self.line.push(field);
+    }
+
+    fn put_word(&mut self, text: &str) {
+        self.put(word(text));
+    }
+
+    fn put_number(&mut self, value: usize, role: Role) {
+        self.put(number(value as u64, role));
+    }
+
+    fn finish_line(&mut self) {
+        self.lines.push(std::mem::take(&mut self.line));
+    }
+
+    fn sheet(&mut self) {
+        let (participants, definitions) = (self.shape.participants, self.shape.definitions);
+        self.put_word("bitml");
+        self.put_number(participants, Role::Count);
+        self.put_number(definitions, Role::Count);
+        self.finish_line();
+        for _ in 0..definitions {
+            self.head();
+            self.contract(1);
+            self.finish_line();
+        }
+    }
+
+    /// The fields of a definition before its contract.
+    fn head(&mut self) {
+        self.put_word("def");
+        let participants = self.shape.participants;
+        let rich = self.random.chance(self.shape.rich);
+        for _ in 0..participants {
+            let most = if rich {
+                model::SATOSHI as usize / participants
+            } else {
+                1_000
+            };
+            let deposit = match self.random.below(4) {
+                0 => 0,
+                1 => self.random.between(0, 9),
+                2 => most,
+                _ => self.random.between(0, most),
+            };
+            self.put_number(deposit, Role::Deposit);
+        }
+        self.secrets = self.random.between(0, self.shape.secrets);
+        self.put_number(self.secrets, Role::Count);
+        self.favoured.clear();
+        for secret in 0..self.secrets {
+            let owner = if self.random.chance(self.shape.favour) {
+                self.favourite
+            } else {
+                self.random.below(participants)
+            };
+            if owner == self.favourite {
+                self.favoured.push(secret);
+            }
+            self.put_number(owner, Role::Participant);
+        }
+    }
+
+    /// A contract whose node has been reserved.
+    fn contract(&mut self, depth: usize) {
+        let full = self.bytes >= self.shape.bytes;
+        let most = self.shape.most.min(self.branches_left).min(16);
+        let mut count = if full {
+            most.min(1)
+        } else {
+            self.random.between(self.shape.least.min(most), most)
+        };
+        if self.random.chance(2) && !self.shape.easy {
+            count = 0;
+        }
+        self.branches_left -= count;
+        self.put_word("c");
+        self.put_number(count, Role::Count);
+        let own = if self.shape.easy {
+            self.random.below(count.max(1))
+        } else {
+            count
+        };
+        for branch in 0..count {
+            self.branch(depth, branch == own);
+        }
+    }
+
+    /// Signers (the favourite alone or nobody if the branch is to be own) and opening time.
+    fn guard(&mut self, own: bool) {
+        let participants = self.shape.participants;
+        let signers = if self.random.chance(self.shape.unsigned) {
+            0
+        } else if own || self.random.chance(50) {
+            1 << self.favourite
+        } else if self.random.chance(50) {
+            1 << self.random.below(participants)
+        } else {
+            self.random.below(1 << participants)
+        };
+        let opens = if self.random.chance(self.shape.open) {
+            0
+        } else {
+            let far = model::TIME as usize;
+            let near = self.random.between(1, 50);
+            self.random
+                .pick(&[near, near, 500, 501, far / 2, far - 1, far])
+        };
+        self.put_number(signers, Role::Signers);
+        self.put_number(opens, Role::Opening);
+    }
+
+    fn branch(&mut self, depth: usize, own: bool) {
+        self.guard(own);
+        let holds =
+            depth < self.shape.depth && self.nodes_left > 0 && self.bytes < self.shape.bytes;
+        let mut weights = self.shape.actions;
+        if !holds {
+            weights[0] += 1;
+            weights[1] = 0;
+        }
+        if !holds || self.secrets == 0 {
+            weights[0] += 1;
+            weights[2] = 0;
+        }
+        if own {
+            weights[0] += 1;
+            weights[3] = 0;
+            if self.favoured.is_empty() {
+                weights[2] = 0;
+            }
+        }
+        match self.random.weighted(&weights) {
+            0 => self.withdraw(),
+            1 => {
+                let most = self.shape.parts.min(self.nodes_left);
+                let count = self.random.between(1, most);
+                self.nodes_left -= count;
+                let weights = self.weights(count);
+                self.put_word("s");
+                self.put_number(count, Role::Count);
+                for weight in weights {
+                    self.put_number(weight, Role::Weight);
+                    self.contract(depth + 1);
+                }
+            }
+            2 => {
+                self.nodes_left -= 1;
+                let condition = self.shape.condition;
+                let plain = own || self.random.chance(self.shape.plain);
+                let fields = if plain {
+                    1
+                } else {
+                    self.random.between(1, condition)
+                };
+                let secrets = if own {
+                    self.favoured.clone()
+                } else {
+                    (0..self.secrets).collect()
+                };
+                self.reveal(fields, secrets);
+                self.contract(depth + 1);
+            }
+            _ => {
+                let definition = self.random.below(self.shape.definitions);
+                self.put_word("g");
+                self.put_number(definition, Role::Definition);
+            }
+        }
+    }
+
+    fn withdraw(&mut self) {
+        let to = self.random.below(self.shape.participants);
+        self.put_word("w");
+        self.put_number(to, Role::Participant);
+    }
+
+    fn weights(&mut self, count: usize) -> Vec<usize> {
+        let most = self.random.pick(&[1, 3, 10, 1_000]);
+        let mut weights: Vec<usize> = (0..count).map(|_| self.random.between(0, most)).collect();
+        if weights.iter().all(|weight| *weight == 0) && self.random.below(200) > 0 {
+            let place = self.random.below(count);
+            weights[place] = self.random.pick(&[1, most]);
+        }
+        weights
+    }
+
+    /// `r`, some of these secrets, and a condition of just so many fields.
+    fn reveal(&mut self, fields: usize, mut secrets: Vec<usize>) {
+        self.random.shuffle(&mut secrets);
+        let count = self.random.between(1, secrets.len());
+        secrets.truncate(count);
+        self.put_word("r");
+        self.put_number(count, Role::Count);
+        for secret in &secrets {
+            self.put_number(*secret, Role::Secret);
+        }
+        self.condition(fields, &secrets);
+    }
+
+    /// A condition of exactly so many fields (1 or more).
+    fn condition(&mut self, fields: usize, listed: &[usize]) {
+        // A comparison has 5, 8, 11, ... fields, since an expression has 2, 5, 8, ...
+        let comparison = fields >= 5 && fields % 3 == 2;
+        if comparison && (fields == 5 || self.random.chance(50)) {
+            let fact = self.random.pick(&["eq", "lt", "lt"]);
+            self.put_word(fact);
+            self.two_expressions((fields - 5) / 3, listed);
+        } else if fields == 1 {
+            self.put_word("t");
+        } else if fields >= 3 && self.random.chance(70) {
+            self.put_word("and");
+            let first = self.random.between(1, fields - 2);
+            self.condition(first, listed);
+            self.condition(fields - 1 - first, listed);
+        } else {
+            self.put_word("not");
+            self.condition(fields - 1, listed);
+        }
+    }
+
+    /// Two expressions with so many sums and differences together.
+    fn two_expressions(&mut self, inner: usize, listed: &[usize]) {
+        let first = self.random.between(0, inner);
+        self.expression(first, listed);
+        self.expression(inner - first, listed);
+    }
+
+    fn expression(&mut self, inner: usize, listed: &[usize]) {
+        if inner > 0 {
+            let sum = self.random.pick(&["add", "sub"]);
+            self.put_word(sum);
+            self.two_expressions(inner - 1, listed);
+        } else if self.random.chance(60) {
+            let secret = self.random.pick(listed);
+            self.put_word("v");
+            self.put_number(secret, Role::Secret);
+        } else {
+            let constant = self
+                .random
+                .pick(&[0, 0, 1, 1, 2, 3, 999_999_999, 1_000_000_000]);
+            self.put_word("k");
+            self.put_number(constant, Role::Constant);
+        }
+    }
+
+    /// A contract of exactly so many nodes, itself counted, wide and not deep.
+    fn exact_contract(&mut self, nodes: usize) {
+        self.put_word("c");
+        if nodes == 1 {
+            self.put_number(1, Role::Count);
+            self.guard(self.shape.easy);
+            self.withdraw();
+            return;
+        }
+        let held = nodes - 1;
+        let most = if self.narrow { 8 } else { 40 };
+        let contracts = held.min(self.random.between(2, most));
+        // How many nodes each of the held contracts has.
+        let mut sizes = vec![held / contracts; contracts];
+        sizes[0] += held % contracts;
+        if self.random.chance(50) {
+            sizes.reverse();
+        }
+        let groups: Vec<&[usize]> = sizes.chunks(8).collect();
+        let leave = self.random.chance(30);
+        self.put_number(groups.len() + usize::from(leave), Role::Count);
+        for group in groups {
+            self.guard(self.shape.easy);
+            if group.len() == 1 && !self.favoured.is_empty() && self.random.chance(50) {
+                self.reveal(1, self.favoured.clone());
+                self.exact_contract(group[0]);
+            } else {
+                self.put_word("s");
+                self.put_number(group.len(), Role::Count);
+                let weights = self.weights(group.len());
+                for (size, weight) in group.iter().zip(weights) {
+                    self.put_number(weight, Role::Weight);
+                    self.exact_contract(*size);
+                }
+            }
+        }
+        if leave {
+            self.guard(self.shape.easy);
+            self.withdraw();
+        }
+    }
+}
+
+/// Sheets at a limit or just past it.
+#[derive(Clone, Copy, PartialEq, Eq)]
+enum Edge {
+    Participants,
+    Definitions,
+    Nodes,
+    Branches,
+    Depth,
+    ConditionFields,
+    Deposits,
+    Bytes,
+}
+
+/// Nodes stand there more often: large sheets make for plays with many contracts.
+const EDGES: [Edge; 10] = [
+    Edge::Participants,
+    Edge::Definitions,
+    Edge::Nodes,
+    Edge::Nodes,
+    Edge::Nodes,
+    Edge::Branches,
+    Edge::Depth,
+    Edge::ConditionFields,
+    Edge::Deposits,
+    Edge::Bytes,
+];
+
+/// Every word of the language.
+const WORDS: [&str; 26] = [
+    "bitml", "def", "c", "w", "s", "r", "g", "t", "and", "not", "eq", "lt", "k", "v", "add", "sub",
+    "make", "check", "row", "play", "x", "wait", "sign", "tell", "fire", "renew",
+];
+
+/// Texts that come close to a word or a number, and numbers at the edge of some range.
+const TEXTS: [&str; 54] = [
+    "",
+    "0",
+    "1",
+    "2",
+    "7",
+    "8",
+    "9",
+    "15",
+    "16",
+    "17",
+    "31",
+    "32",
+    "33",
+    "255",
+    "256",
+    "511",
+    "512",
+    "513",
+    "1000",
+    "1001",
+    "65535",
+    "65536",
+    "1000000000",
+    "1000000001",
+    "4294967295",
+    "4294967296",
+    "2100000000000000",
+    "2100000000000001",
+    "9223372036854775807",
+    "9223372036854775808",
+    "9999999999999999999",
+    "10000000000000000000",
+    "18446744073709551616",
+    "00",
+    "01",
+    "-1",
+    "+1",
+    " 1",
+    "1 ",
+    "1.0",
+    "1e3",
+    "0x1",
+    "x",
+    "X",
+    "t",
+    "T",
+    "c",
+    "w",
+    "g",
+    "row",
+    "wait",
+    "1\r",
+    "t\r",
+    "\u{0661}",
+];
+
+/// Bytes that make a difference more often than others.
+const BYTES: &[u8] = b",,\n\n\r0129xtcwsrg \0";
+
+// ---------------------------------------------------------------------------------------------
+// The generator
+// ---------------------------------------------------------------------------------------------
+
+/// An endless stream of requests.
+pub struct Generator {
+    random: Random,
+}
+
+impl Generator {
+    pub fn new(seed: u64) -> Generator {
+        Generator {
+            random: Random::new(seed),
+        }
+    }
+
+    fn grower(&mut self, shape: Shape) -> Grower<'_> {
+        let favourite = self.random.below(shape.participants);
+        Grower {
+            favourite,
+            lines: Vec::new(),
+            line: Vec::new(),
+            nodes_left: shape.nodes - shape.definitions.min(shape.nodes),
+            branches_left: shape.branches,
+            bytes: 0,
+            secrets: 0,
+            favoured: Vec::new(),
+            narrow: self.random.chance(70),
+            random: &mut self.random,
+            shape,
+        }
+    }
+
+    /// A random sheet within all limits (but now and then with weights that add to 0).
+    fn sheet(&mut self) -> Draft {
+        let shape = Shape::random(&mut self.random);
+        let mut grower = self.grower(shape);
+        grower.sheet();
+        Draft {
+            lines: grower.lines,
+        }
+    }
+
+    /// A sheet at a limit; `over` says by how much it passes.
+    fn edge_sheet(&mut self, edge: Edge, over: usize) -> Draft {
+        let mut shape = Shape::random(&mut self.random);
+        shape.bytes = 10_000;
+        shape.unsigned = shape.unsigned.max(70);
+        shape.plain = 100;
+        match edge {
+            Edge::Participants => {
+                shape.participants = 16 + over;
+                shape.rich = 0;
+            }
+            Edge::Definitions => {
+                shape.definitions = 32 + over;
+                shape.nodes = shape.nodes.max(40);
+                shape.actions[3] = 3;
+            }
+            Edge::ConditionFields => shape.secrets = shape.secrets.max(1),
+            Edge::Branches => shape.definitions = 32,
+            Edge::Nodes => shape.definitions = self.random.pick(&[1, 1, 2, 7, 32]),
+            Edge::Depth | Edge::Deposits => shape.definitions = 1,
+            Edge::Bytes => shape.definitions = 1,
+        }
+        let (participants, definitions) = (shape.participants, shape.definitions);
+        shape.nodes = shape.nodes.max(definitions);
+        let mut grower = self.grower(shape);
+        if matches!(edge, Edge::Participants | Edge::Definitions) {
+            grower.sheet();
+            return Draft {
+                lines: grower.lines,
+            };
+        }
+        if edge == Edge::Bytes {
+            let target = model::SHEET_BYTES + over;
+            return grower.long_sheet(target);
+        }
+        grower.put_word("bitml");
+        grower.put_number(participants, Role::Count);
+        grower.put_number(definitions, Role::Count);
+        grower.finish_line();
+        let mut nodes_left = model::NODES + over;
+        for definition in 0..definitions {
+            let last = definition + 1 == definitions;
+            grower.head();
+            match edge {
+                Edge::Nodes => {
+                    let nodes = if last {
+                        nodes_left
+                    } else {
+                        model::NODES / definitions
+                    };
+                    nodes_left -= nodes;
+                    grower.exact_contract(nodes);
+                }
+                // 32 definitions of 32 branches each: 16 of the root, 16 of one part.
+                Edge::Branches => {
+                    grower.put_word("c");
+                    grower.put_number(16, Role::Count);
+                    for branch in 0..16 {
+                        grower.guard(grower.shape.easy);
+                        if branch < 15 {
+                            grower.withdraw();
+                        } else {
+                            grower.put_word("s");
+                            let contracts = 1 + usize::from(last && over > 0);
+                            grower.put_number(contracts, Role::Count);
+                            grower.put_number(1, Role::Weight);
+                            grower.put_word("c");
+                            grower.put_number(16, Role::Count);
+                            for _ in 0..16 {
+                                grower.guard(grower.shape.easy);
+                                grower.withdraw();
+                            }
+                            if contracts == 2 {
+                                grower.put_number(0, Role::Weight);
+                                grower.put_word("c");
+                                grower.put_number(over, Role::Count);
+                                for _ in 0..over {
+                                    grower.guard(grower.shape.easy);
+                                    grower.withdraw();
+                                }
+                            }
+                        }
+                    }
+                }
+                Edge::Depth => {
+                    for _ in 1..model::DEPTH + over {
+                        grower.put_word("c");
+                        let more = usize::from(grower.random.chance(20));
+                        grower.put_number(1 + more, Role::Count);
+                        for _ in 0..more {
+                            grower.guard(grower.shape.easy);
+                            grower.withdraw();
+                        }
+                        grower.guard(grower.shape.easy);
+                        if !grower.favoured.is_empty() && grower.random.chance(50) {
+                            grower.reveal(1, grower.favoured.clone());
+                        } else {
+                            grower.put_word("s");
+                            grower.put_number(1, Role::Count);
+                            grower.put_number(7, Role::Weight);
+                        }
+                    }
+                    grower.put_word("c");
+                    grower.put_number(1, Role::Count);
+                    grower.guard(grower.shape.easy);
+                    grower.withdraw();
+                }
+                Edge::ConditionFields => {
+                    grower.put_word("c");
+                    if grower.secrets == 0 {
+                        grower.put_number(0, Role::Count);
+                    } else {
+                        grower.put_number(2, Role::Count);
+                        for fields in [64, 64 + over] {
+                            grower.guard(grower.shape.easy);
+                            grower.reveal(fields, (0..grower.secrets).collect());
+                            grower.put_word("c");
+                            grower.put_number(1, Role::Count);
+                            grower.guard(grower.shape.easy);
+                            grower.withdraw();
+                        }
+                    }
+                }
+                // Rewrite the deposits so that they add to the limit.
+                _ => {
+                    let mut left = model::SATOSHI as usize + over;
+                    for participant in 0..participants {
+                        let most = left.min(model::SATOSHI as usize);
+                        let deposit = if participant + 1 == participants {
+                            left
+                        } else {
+                            grower.random.between(0, most)
+                        };
+                        left -= deposit;
+                        grower.line[1 + participant] = number(deposit as u64, Role::Deposit);
+                    }
+                    grower.contract(1);
+                }
+            }
+            grower.finish_line();
+        }
+        Draft {
+            lines: grower.lines,
+        }
+    }
+
+    /// The whole next request.
+    pub fn request(&mut self) -> Vec<u8> {
+        // A few requests are about the length of the whole.
+        if self.random.below(400) == 0 {
+            return self.longest();
+        }
+        let mut draft = if self.random.chance(8) {
+            let edge = self.random.pick(&EDGES);
+            let over = self.random.pick(&[0, 0, 1, 1, 2]);
+            self.edge_sheet(edge, over)
+        } else {
+            self.sheet()
+        };
+        self.add_last_part(&mut draft);
+        if self.random.chance(30) {
+            self.damage(draft)
+        } else {
+            draft.bytes()
+        }
+    }
+
+    // -- last parts ---------------------------------------------------------------------------
+
+    /// The sheet of a draft, if the reader takes it.
+    fn sheet_of(draft: &Draft) -> Option<Sheet> {
+        let mut bytes = draft.bytes();
+        bytes.extend_from_slice(b"make,0\n");
+        model::read(&bytes).ok().map(|request| request.sheet)
+    }
+
+    fn add_last_part(&mut self, draft: &mut Draft) {
+        let Some(sheet) = Self::sheet_of(draft) else {
+            draft
+                .lines
+                .push(vec![word("make"), number(0, Role::Participant)]);
+            return;
+        };
+        match self.random.below(10) {
+            0..=2 => {
+                let participant = self.random.below(sheet.participants);
+                draft.lines.push(vec![
+                    word("make"),
+                    number(participant as u64, Role::Participant),
+                ]);
+            }
+            3..=5 => self.add_check(draft, &sheet),
+            _ => {
+                // Large sheets and renewals allow plays that make many contracts.
+                let large = sheet.nodes.len() >= 60 || sheet.nodes.len() > 8 && renews(&sheet);
+                let most = match self.random.below(5) {
+                    0 => 5,
+                    1 => 30,
+                    3 | 4 if large => 1_500,
+                    4 => 400,
+                    _ => 100,
+                };
+                let events = self.random.between(most / 4, most);
+                self.add_play(draft, &sheet, events, 60_000);
+            }
+        }
+    }
+
+    /// `check` with rows that are accepted or nearly so.
+    fn add_check(&mut self, draft: &mut Draft, sheet: &Sheet) {
+        // Most often a participant for whom the sheet is liquid, if there is one.
+        let mut participant = self.random.below(sheet.participants);
+        if self.random.chance(85) {
+            let liquid: Vec<usize> = (0..sheet.participants)
+                .filter(|participant| model::make(sheet, *participant).is_ok())
+                .collect();
+            if !liquid.is_empty() {
+                participant = self.random.pick(&liquid);
+            }
+        }
+        let reached = model::reached(sheet);
+        let exits = model::exits(sheet, participant);
+        // Rows for nodes that no run reaches are taken too, where their branches allow it.
+        let wanted: Vec<bool> = if self.random.chance(20) {
+            vec![true; sheet.nodes.len()]
+        } else {
+            reached
+        };
+        let keep = self.random.chance(80);
+        let raise = self.random.pick(&[0, 0, 20, 100]);
+        let by = self.random.pick(&[1, 5, 100]);
+        let mut ranks: Vec<Option<u64>> = vec![None; sheet.nodes.len()];
+        let mut rows: Vec<[usize; 3]> = Vec::new();
+        for node in (0..sheet.nodes.len()).rev() {
+            let branches = sheet.nodes[node].branches.len();
+            // A node with no exit gets some branch, so that the fault is not always a missing row.
+            let mut branch = match exits[node] {
+                Some(exit) => exit.branch,
+                None if branches > 0 && keep => self.random.below(branches),
+                None => continue,
+            };
+            if raise > 0 && self.random.chance(30) {
+                // Another own branch whose contracts all have exits.
+                let other = self.random.below(branches);
+                let contracts = sheet.nodes[node].branches[other].contracts();
+                if sheet.is_own(node, other, participant)
+                    && contracts.iter().all(|contract| exits[*contract].is_some())
+                {
+                    branch = other;
+                }
+            }
+            let contracts = sheet.nodes[node].branches[branch].contracts();
+            let sum: u64 = contracts
+                .iter()
+                .filter_map(|contract| ranks[*contract])
+                .sum();
+            let mut rank = 1 + sum;
+            if self.random.chance(raise) {
+                rank += self.random.between(0, by) as u64;
+            }
+            if raise > 0 && self.random.below(400) == 0 {
+                rank = model::RANK;
+            }
+            rank = rank.min(model::RANK);
+            ranks[node] = Some(rank);
+            if wanted[node] {
+                rows.push([node, branch, rank as usize]);
+            }
+        }
+        match self.random.below(3) {
+            0 => rows.reverse(),
+            1 => self.random.shuffle(&mut rows),
+            _ => {}
+        }
+        if self.random.chance(45) && !rows.is_empty() {
+            for _ in 0..self.random.pick(&[1, 1, 1, 2, 5]) {
+                self.damage_rows(&mut rows, sheet);
+            }
+        }
+        if self.random.below(100) == 0 && !rows.is_empty() {
+            // Just at the limit of rows, or just past it.
+            let count = self.random.between(511, 514);
+            while rows.len() < count {
+                let row = self.random.pick(&rows);
+                rows.push(row);
+            }
+        }
+        draft.lines.push(vec![
+            word("check"),
+            number(participant as u64, Role::Participant),
+        ]);
+        for [node, branch, rank] in rows {
+            draft.lines.push(vec![
+                word("row"),
+                number(node as u64, Role::Node),
+                number(branch as u64, Role::Branch),
+                number(rank as u64, Role::Rank),
+            ]);
+        }
+    }
+
+    /// Makes one row wrong, but so that it can still be read (most often).
+    fn damage_rows(&mut self, rows: &mut Vec<[usize; 3]>, sheet: &Sheet) {
+        if rows.is_empty() {
+            return;
+        }
+        let place = self.random.below(rows.len());
+        match self.random.below(9) {
+            0 => {
+                rows.remove(place);
+            }
+            1 => {
+                let row = rows[place];
+                let other = self.random.between(0, rows.len());
+                rows.insert(other, row);
+            }
+            2 => {
+                let branches = sheet.nodes[rows[place][0]].branches.len();
+                let past = usize::from(self.random.chance(10));
+                rows[place][1] = self.random.below((branches + past).max(1));
+            }
+            3..=6 => {
+                // A rank above 1, if there is one, made lower.
+                let high: Vec<usize> = (0..rows.len()).filter(|row| rows[*row][2] > 1).collect();
+                if !high.is_empty() {
+                    let place = self.random.pick(&high);
+                    let less = self.random.between(1, 2);
+                    rows[place][2] = rows[place][2].saturating_sub(less).max(1);
+                }
+            }
+            7 => {
+                let more = self.random.between(1, 9);
+                rows[place][2] = (rows[place][2] + more).min(65_535);
+            }
+            _ => rows[place][0] = self.random.below(sheet.nodes.len()),
+        }
+    }
+
+    fn value(&mut self) -> Field {
+        let text = match self.random.below(20) {
+            0 => "x".to_string(),
+            1 => "1000000000".to_string(),
+            2 => self.random.below(1_000_000_001).to_string(),
+            _ => self.random.between(0, 3).to_string(),
+        };
+        Field {
+            text,
+            role: Role::Value,
+        }
+    }
+
+    /// `play` with about so many events, most of them taken, and at most so many bytes in all.
+    fn add_play(&mut self, draft: &mut Draft, sheet: &Sheet, events: usize, bytes: usize) {
+        let mut head = vec![word("play")];
+        for _ in &sheet.definitions[0].owners {
+            head.push(self.value());
+        }
+        draft.lines.push(head);
+        let Ok(Request {
+            part: LastPart::Play { values, .. },
+            ..
+        }) = model::read(&draft.bytes())
+        else {
+            unreachable!("a sheet that was read and a play without events");
+        };
+        let mut play = Play {
+            ledger: Ledger::stipulate(sheet, &values),
+            sheet,
+            length: draft.length(),
+            limits: 0,
+            lines: Vec::new(),
+        };
+        // Some plays skip what a firing asks for more often than others.
+        let careless = self.random.pick(&[0, 3, 10, 30]);
+        let wild = self.random.pick(&[2, 10, 25]);
+        // A run that has met a limit of the ledger goes on for a while only.
+        // So does one in which no contract is made any more.
+        let patience = self.random.pick(&[1, 3, 10, 40]);
+        let (mut made, mut made_at) = (0, 0);
+        while play.lines.len() < events && play.length + 200 < bytes && play.limits < patience {
+            if play.ledger.contracts.len() > made {
+                (made, made_at) = (play.ledger.contracts.len(), play.lines.len());
+            } else if play.lines.len() > made_at + 100 && self.random.chance(10) {
+                break;
+            }
+            let live: Vec<usize> = (0..play.ledger.contracts.len())
+                .filter(|contract| play.ledger.contracts[*contract].alive)
+                .collect();
+            if live.is_empty() && self.random.chance(20) {
+                break;
+            }
+            if live.is_empty() || self.random.chance(wild) {
+                let event = self.wild_event(&play);
+                play.add(event);
+            } else {
+                let contract = self.random.pick(&live);
+                self.pursue(&mut play, contract, careless);
+            }
+        }
+        draft.lines.append(&mut play.lines);
+    }
+
+    /// The events that take a branch of a live contract: signatures, secrets, waiting, firing.
+    fn pursue(&mut self, play: &mut Play, contract: usize, careless: usize) {
+        let node = &play.sheet.nodes[play.ledger.contracts[contract].node];
+        if node.branches.is_empty() {
+            let event = self.wild_event(play);
+            play.add(event);
+            return;
+        }
+        // Prefer branches that make more contracts or sets, so that plays get long.
+        let mut number = self.random.below(node.branches.len());
+        for _ in 0..4 {
+            if let Action::Withdraw { .. } = node.branches[number].action {
+                number = self.random.below(node.branches.len());
+            }
+        }
+        let branch = &node.branches[number];
+        let set = play.ledger.contracts[contract].set;
+        let mut asked: Vec<Event> = Vec::new();
+        for participant in 0..play.sheet.participants {
+            let signed = play.ledger.contracts[contract].signed[number];
+            if branch.is_signed_by(participant) && signed >> participant & 1 == 0 {
+                asked.push(Event::Sign {
+                    participant,
+                    contract,
+                    branch: number,
+                });
+            }
+        }
+        if let Action::Reveal { secrets, .. } = &branch.action {
+            for secret in secrets {
+                if !play.ledger.sets[set][*secret].told {
+                    asked.push(Event::Tell {
+                        set,
+                        secret: *secret,
+                    });
+                }
+            }
+        }
+        if branch.opens > play.ledger.time {
+            let missing = branch.opens - play.ledger.time;
+            // A far opening time would end most plays with 19, so mostly give up on it.
+            if missing > 1_000 && !self.random.chance(5) {
+                return play.add(Event::Wait {
+                    delay: self.random.between(1, 60) as u64,
+                });
+            }
+            asked.push(Event::Wait { delay: missing });
+        }
+        self.random.shuffle(&mut asked);
+        for event in asked {
+            if !self.random.chance(careless) {
+                play.add(event);
+            }
+        }
+        let last = match &branch.action {
+            Action::Renew { definition } => {
+                let mut count = play.sheet.definitions[*definition].owners.len();
+                if self.random.chance(careless) {
+                    count = self.random.between(0, 8);
+                }
+                let values = (0..count).map(|_| self.renewed_value()).collect();
+                Event::Renew {
+                    contract,
+                    branch: number,
+                    values,
+                }
+            }
+            _ => Event::Fire {
+                contract,
+                branch: number,
+            },
+        };
+        play.add(last);
+    }
+
+    fn renewed_value(&mut self) -> Value {
+        match self.value().text.parse() {
+            Ok(number) => Value::Number(number),
+            Err(_) => Value::IllFormed,
+        }
+    }
+
+    /// Some event, most often refused.
+    fn wild_event(&mut self, play: &Play) -> Event {
+        let contracts = play.ledger.contracts.len();
+        let contract = match self.random.below(10) {
+            0 => contracts,
+            1 => self.random.pick(&[255, 256, 257, 65_535]),
+            2..=4 => self.random.below(contracts),
+            // One of the youngest.
+            _ => contracts - 1 - self.random.below(contracts.min(4)),
+        };
+        let branches = match play.ledger.contracts.get(contract) {
+            Some(contract) => play.sheet.nodes[contract.node].branches.len(),
+            None => 1,
+        };
+        let branch = match self.random.below(12) {
+            0 => self.random.pick(&[16, 255, 256, 65_535]),
+            _ => self.random.between(0, branches),
+        };
+        match self.random.below(8) {
+            0 => {
+                let near = self.random.between(1, 20) as u64;
+                let far = self
+                    .random
+                    .pick(&[near, near, near, near, 500, model::TIME / 4]);
+                let left = (model::TIME - play.ledger.time).max(1);
+                let far = if self.random.chance(4) {
+                    self.random
+                        .pick(&[left, model::TIME, (left + 1).min(model::TIME)])
+                } else {
+                    far
+                };
+                Event::Wait { delay: far }
+            }
+            1 | 2 => Event::Sign {
+                participant: self.random.below(play.sheet.participants),
+                contract,
+                branch,
+            },
+            3 => {
+                let sets = play.ledger.sets.len();
+                let set = match self.random.below(8) {
+                    0 => self.random.pick(&[sets, 31, 32, 65_535]),
+                    _ => self.random.below(sets),
+                };
+                let secrets = play.ledger.sets.get(set).map_or(1, |set| set.len());
+                Event::Tell {
+                    set,
+                    secret: self.random.between(0, secrets),
+                }
+            }
+            4 => {
+                let count = self.random.between(0, 8);
+                let values = (0..count).map(|_| self.renewed_value()).collect();
+                Event::Renew {
+                    contract,
+                    branch,
+                    values,
+                }
+            }
+            _ => Event::Fire { contract, branch },
+        }
+    }
+
+    /// A request of 65,536 bytes, or one more, or one less: a play with many events.
+    fn longest(&mut self) -> Vec<u8> {
+        let target = self
+            .random
+            .pick(&[65_535, 65_536, 65_536, 65_537, 65_537, 70_000]);
+        let mut draft = loop {
+            let draft = self.sheet();
+            if Self::sheet_of(&draft).is_some() {
+                break draft;
+            }
+        };
+        if let Some(sheet) = Self::sheet_of(&draft) {
+            let most = self.random.pick(&[50, 500, 10_000]);
+            self.add_play(&mut draft, &sheet, most, target);
+        }
+        // Short events, then one that ends at the target (it has 7 to 16 bytes).
+        let mut left = target - draft.length();
+        while left >= 7 + 9 {
+            let line = match self.random.below(4) {
+                0 => vec![word("tell"), number(0, Role::Index), number(0, Role::Index)],
+                1 => vec![word("fire"), number(0, Role::Index), number(1, Role::Index)],
+                _ => vec![word("wait"), number(1, Role::Delay)],
+            };
+            left -= line_length(&line);
+            draft.lines.push(line);
+        }
+        let digits = left.saturating_sub(6).clamp(1, 10);
+        let delay = 10u64.pow(digits as u32 - 1);
+        draft
+            .lines
+            .push(vec![word("wait"), number(delay, Role::Delay)]);
+        draft.bytes()
+    }
+
+    // -- damage -------------------------------------------------------------------------------
+
+    /// Damages a request: in its fields, in its lines, in its bytes.
+    fn damage(&mut self, mut draft: Draft) -> Vec<u8> {
+        let times = self.random.pick(&[1, 1, 1, 1, 2, 3]);
+        if self.random.chance(60) {
+            for _ in 0..times {
+                self.damage_fields(&mut draft);
+            }
+            let mut bytes = draft.bytes();
+            if self.random.chance(15) {
+                bytes.pop();
+            }
+            bytes
+        } else {
+            let mut bytes = draft.bytes();
+            for _ in 0..times {
+                self.damage_bytes(&mut bytes);
+            }
+            bytes
+        }
+    }
+
+    fn damage_fields(&mut self, draft: &mut Draft) {
+        if draft.lines.is_empty() {
+            return;
+        }
+        // The lines after the sheet are many and short: aim at each line alike, or at the sheet.
+        let lines = draft.lines.len();
+        let sheet_lines = draft
+            .lines
+            .iter()
+            .take_while(|line| {
+                let first = line.first().map_or("", |field| field.text.as_str());
+                matches!(first, "bitml" | "def")
+            })
+            .count();
+        let line = match self.random.below(3) {
+            0 if sheet_lines > 0 => self.random.below(sheet_lines),
+            1 if sheet_lines < lines => self.random.between(sheet_lines, lines - 1),
+            _ => self.random.below(lines),
+        };
+        let fields = draft.lines[line].len();
+        if fields == 0 {
+            return;
+        }
+        let place = self.random.below(fields);
+        match self.random.below(12) {
+            // A number or a word put in its place.
+            0..=2 => draft.lines[line][place].text = self.random.pick(&TEXTS).to_string(),
+            3..=5 => {
+                let role = draft.lines[line][place].role;
+                let text = self.edge_of(role, draft);
+                draft.lines[line][place].text = text;
+            }
+            6 => {
+                // The field before it, once more: a secret twice, if some `r` lists two.
+                let mut places = Vec::new();
+                for (line, fields) in draft.lines.iter().enumerate() {
+                    for (place, pair) in fields.windows(2).enumerate() {
+                        if pair.iter().all(|field| field.role == Role::Secret) {
+                            places.push((line, place));
+                        }
+                    }
+                }
+                if places.is_empty() {
+                    places.push((line, place.saturating_sub(1)));
+                }
+                let (line, place) = self.random.pick(&places);
+                if place + 1 < draft.lines[line].len() {
+                    draft.lines[line][place + 1] = draft.lines[line][place].clone();
+                }
+            }
+            7 => {
+                let other = self.random.below(fields);
+                draft.lines[line].swap(place, other);
+            }
+            8 => {
+                draft.lines[line].remove(place);
+            }
+            9 => {
+                let text = self.random.pick(&TEXTS).to_string();
+                let at = self.random.pick(&[place, fields]);
+                draft.lines[line].insert(
+                    at,
+                    Field {
+                        text,
+                        role: Role::Word,
+                    },
+                );
+            }
+            10 => {
+                let copy = self.random.below(lines);
+                let copy = draft.lines[copy].clone();
+                let at = self.random.pick(&[line, lines, lines]);
+                draft.lines.insert(at, copy);
+            }
+            _ => match self.random.below(4) {
+                0 => {
+                    draft.lines.remove(line);
+                }
+                1 => {
+                    let other = self.random.below(lines);
+                    draft.lines.swap(line, other);
+                }
+                2 => draft.lines.insert(line, Vec::new()),
+                _ => draft.lines[line].truncate(place),
+            },
+        }
+    }
+
+    /// A text at the edge of what a field of this role may be.
+    fn edge_of(&mut self, role: Role, draft: &Draft) -> String {
+        let count = |place: usize| -> usize {
+            let field = draft.lines.first().and_then(|line| line.get(place));
+            field.and_then(|field| field.text.parse().ok()).unwrap_or(1)
+        };
+        let participants = count(1).clamp(1, 16);
+        let edges: Vec<usize> = match role {
+            Role::Word => return self.random.pick(&WORDS).to_string(),
+            Role::Count => vec![0, 1, 8, 9, 16, 17, 32, 33],
+            Role::Deposit => vec![0, 2_100_000_000_000_000, 2_100_000_000_000_001],
+            Role::Participant => vec![participants - 1, participants, 15, 16],
+            Role::Signers => vec![0, (1 << participants) - 1, 1 << participants],
+            Role::Opening => vec![0, 4_294_967_295, 4_294_967_296],
+            Role::Weight => vec![0, 0, 1_000, 1_001],
+            Role::Secret => vec![0, 1, 7, 8],
+            Role::Constant => vec![0, 1_000_000_000, 1_000_000_001],
+            Role::Definition => vec![0, count(2).saturating_sub(1), count(2)],
+            Role::Node => vec![0, 1, 511, 512],
+            Role::Branch => vec![0, 1, 2, 15, 16],
+            Role::Rank => vec![0, 1, 65_535, 65_536],
+            Role::Value => vec![0, 1_000_000_000, 1_000_000_001],
+            Role::Delay => vec![0, 1, 4_294_967_295, 4_294_967_296],
+            Role::Index => vec![0, 255, 256, 65_535, 65_536],
+        };
+        self.random.pick(&edges).to_string()
+    }
+
+    fn damage_bytes(&mut self, bytes: &mut Vec<u8>) {
+        if bytes.is_empty() {
+            return;
+        }
+        // Anywhere, or near the end, or near the limit of the sheet's bytes.
+        let length = bytes.len();
+        let place = match self.random.below(4) {
+            0 => length - 1 - self.random.below(length.min(20)),
+            1 if length > model::SHEET_BYTES + 4 => self
+                .random
+                .between(model::SHEET_BYTES - 4, model::SHEET_BYTES + 3),
+            _ => self.random.below(length),
+        };
+        match self.random.below(8) {
+            0 => bytes[place] ^= 1 << self.random.below(8),
+            1 => bytes[place] = self.random.pick(BYTES),
+            2 => {
+                bytes.remove(place);
+            }
+            3 => bytes.insert(place, self.random.pick(BYTES)),
+            4 => bytes.truncate(place),
+            5 => {
+                let other = self.random.below(length);
+                bytes.swap(place, other);
+            }
+            6 => bytes.push(self.random.pick(BYTES)),
+            _ => bytes[place] = self.random.below(256) as u8,
+        }
+    }
+}
+
+impl Iterator for Generator {
+    type Item = Vec<u8>;
+
+    fn next(&mut self) -> Option<Vec<u8>> {
+        Some(self.request())
+    }
+}
+
+/// A play as it is put together: the model's ledger goes along.
+struct Play<'s> {
+    ledger: Ledger,
+    sheet: &'s Sheet,
+    /// Bytes of the whole request so far.
+    length: usize,
+    /// Firings and renewals refused with 19 so far.
+    limits: usize,
+    lines: Vec<Vec<Field>>,
+}
+
+impl Play<'_> {
+    fn add(&mut self, event: Event) {
+        // A refused event leaves the ledger the same.
+        let answer = self.ledger.step(self.sheet, &event);
+        if answer == Err(19) && !matches!(event, Event::Wait { .. }) {
+            self.limits += 1;
+        }
+        let line = event_line(&event);
+        self.length += line_length(&line);
+        self.lines.push(line);
+    }
+}
+
+/// Does some branch renew?
+fn renews(sheet: &Sheet) -> bool {
+    let mut branches = sheet.nodes.iter().flat_map(|node| &node.branches);
+    branches.any(|branch| matches!(branch.action, Action::Renew { .. }))
+}
+
+fn event_line(event: &Event) -> Vec<Field> {
+    let index = |value: &usize| number(*value as u64, Role::Index);
+    match event {
+        Event::Wait { delay } => vec![word("wait"), number(*delay, Role::Delay)],
+        Event::Sign {
+            participant,
+            contract,
+            branch,
+        } => vec![
+            word("sign"),
+            number(*participant as u64, Role::Participant),
+            index(contract),
+            index(branch),
+        ],
+        Event::Tell { set, secret } => vec![word("tell"), index(set), index(secret)],
+        Event::Fire { contract, branch } => vec![word("fire"), index(contract), index(branch)],
+        Event::Renew {
+            contract,
+            branch,
+            values,
+        } => {
+            let mut line = vec![word("renew"), index(contract), index(branch)];
+            for value in values {
+                let text = match value {
+                    Value::Number(number) => number.to_string(),
+                    Value::IllFormed => "x".to_string(),
+                };
+                line.push(Field {
+                    text,
+                    role: Role::Value,
+                });
+            }
+            line
+        }
+    }
+}
+
+impl Grower<'_> {
+    /// A sheet whose `def` lines end at exactly so many bytes (about 32,768): many reveals with
+    /// long conditions, then opening times made longer until the length fits.
+    fn long_sheet(&mut self, target: usize) -> Draft {
+        let participants = self.shape.participants;
+        self.shape.open = 100;
+        let mut definitions: Vec<(Vec<Field>, Vec<Vec<Field>>)> = Vec::new();
+        // Line 1, with two digits for the count of definitions.
+        let mut length = "bitml,,\n".len() + participants.to_string().len() + 2;
+        'grow: loop {
+            self.head();
+            let head = std::mem::take(&mut self.line);
+            // `c` and the count of branches, two digits at most.
+            length += line_length(&head) + "c,16,".len();
+            definitions.push((head, Vec::new()));
+            for _ in 0..16 {
+                self.guard(self.shape.easy);
+                if self.secrets > 0 && self.random.chance(90) {
+                    let fields = self.random.between(40, 64);
+                    self.reveal(fields, (0..self.secrets).collect());
+                    self.put_word("c");
+                    self.put_number(0, Role::Count);
+                } else {
+                    self.withdraw();
+                }
+                let branch = std::mem::take(&mut self.line);
+                length += line_length(&branch);
+                if let Some((_, branches)) = definitions.last_mut() {
+                    branches.push(branch);
+                }
+                if length + 450 > target {
+                    break 'grow;
+                }
+            }
+            if definitions.len() == 32 {
+                break;
+            }
+        }
+        let mut lines = vec![vec![
+            word("bitml"),
+            number(participants as u64, Role::Count),
+            number(definitions.len() as u64, Role::Count),
+        ]];
+        for (mut line, branches) in definitions {
+            line.push(word("c"));
+            line.push(number(branches.len() as u64, Role::Count));
+            line.extend(branches.into_iter().flatten());
+            lines.push(line);
+        }
+        let mut draft = Draft { lines };
+        let mut missing = target.saturating_sub(draft.length());
+        for field in draft.lines.iter_mut().flatten() {
+            if field.role == Role::Opening && missing > 0 {
+                let digits = 10.min(1 + missing);
+                field.text = "1".repeat(digits);
+                missing -= digits - 1;
+            }
+        }
+        draft
+    }
+}

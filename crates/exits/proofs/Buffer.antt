@@ -72,7 +72,7 @@ unfolding flat
 flat-length [] = omega arith
 flat-length (r ∷ rs) = omega (arith, flat-length rs)
 
-flat-append : (rs : List Row) (r : Row) → flat (rs ++ (r ∷ [])) ≡ flat rs ++ (r .node ∷ r .branch ∷ r .rank ∷ [])
+pub flat-append : (rs : List Row) (r : Row) → flat (rs ++ (r ∷ [])) ≡ flat rs ++ (r .node ∷ r .branch ∷ r .rank ∷ [])
 unfolding flat
 flat-append [] r = refl
 flat-append (q ∷ rs) r = ap (λ xs. q .node ∷ q .branch ∷ q .rank ∷ xs) (flat-append rs r)

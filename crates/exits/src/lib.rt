@@ -304,7 +304,8 @@ fn reach(
     spread(t, seen, marks);
 }
 
-fn clear(rows: &mut [usize])
+// The whole row buffer becomes zero.
+pub fn clear(rows: &mut [usize])
     ensures { λ _. ⌜ now (rows .exit) ≡ filled (length (now (rows .entry))) [] ⌝ }
 {
     let mut i = 0;

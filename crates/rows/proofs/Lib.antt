@@ -1,0 +1,3 @@
+pub mod Ranks
+pub mod Judged
+pub mod Buffer

@@ -1,0 +1,95 @@
+-- Rows as given, in a buffer of numbers, and the array of their ranks. Assumes nothing.
+use mathlib.Core.Path.{_≡_}
+use Prim.Native.Nat.{ℕ, suc, _*_, _≤_, _<_}
+use mathlib.Core.Bool.{Bool, not, cond}
+use mathlib.Core.List.{List, [], map}
+use lib.ListN.{length, getD}
+use lib.Dec.{leb, eqb}
+use Rattle.bitml.specs.Lists.{ask, sum, every, All}
+use Rattle.bitml.specs.Runs.{own, next}
+use Rattle.bitml.specs.Rows as bitml
+use Rattle.bitml.specs.Rows.{Row, rankOf}
+use Rattle.tables.specs.Entries.{Entries, held}
+use Rattle.tables.specs.SheetOf.{sheetOf, branchOf, branchNumber, branchNumbers, partNumbers}
+use Rattle.requests.specs.Rows.{RowEntry, RowFits, countIn, rowIn, rowsOf, mostRank, mostRows}
+use Rattle.exits.specs.Made.{filled}
+use Rattle.rows.specs.declared.Fault.{Fault}
+use Rattle.rows.specs.declared.Checked.{Checked}
+use Rattle.rows.specs.declared.Checked.the-variants.{Liquid, Refused}
+
+-- "`row`,node,branch,rank"
+abbrev pub row : ℕ → ℕ → ℕ → Row
+row n b k = record { node = n; branch = b; rank = k }
+
+-- as it was read
+abbrev pub rowOf : RowEntry → Row
+rowOf r = row (r .node) (r .branch) (r .rank)
+
+-- The first n rows of a buffer
+unfoldable pub rowsIn : ℕ → List ℕ → List Row
+rowsIn n u = map rowOf (rowsOf n u)
+
+-- "up to 512 lines `row`,node,branch,rank (1 to 65,535)": what the reader promises of n rows
+pub record RowsFit (t u : List ℕ) (n : ℕ) : Type 0 where
+  pub few : n ≤ mostRows
+  pub long : 3 * n ≤ length u
+  pub each : (i : ℕ) → i < n → RowFits (countIn t) (length (held t .nodes)) (rowIn u i)
+
+-- The same by no table
+pub record RowsSmall (u : List ℕ) (n : ℕ) : Type 0 where
+  pub few : n ≤ mostRows
+  pub long : 3 * n ≤ length u
+  pub node : (i : ℕ) → i < n → rowIn u i .node < 512
+  pub some : (i : ℕ) → i < n → 0 < rowIn u i .rank
+  pub most : (i : ℕ) → i < n → rowIn u i .rank ≤ mostRank
+
+-- ---- by the array A of ranks
+
+-- A has the rank of each node by the rows R, and 0 where it has no row
+pub record Known (R : List Row) (A : List ℕ) : Type 0 where
+  pub long : length A ≡ 512
+  pub rank : (m : ℕ) → getD A m 0 ≡ rankOf R m
+  pub some : All (λ r. 0 < r .rank) R
+  pub most : (m : ℕ) → getD A m 0 ≤ mostRank
+
+-- Node m has a row
+unfoldable pub hasBy : List ℕ → ℕ → Bool
+hasBy A m = not (eqb (getD A m 0) 0)
+
+-- "all contracts of .. branches, and the roots they renew as, have rows": of branch entry b
+unfoldable pub nextBy : ℕ → Entries → List ℕ → ℕ → Bool
+nextBy K E A b = every (hasBy A) (next (sheetOf K E) (branchOf E b .action))
+
+unfoldable pub rankSum : List ℕ → List ℕ → ℕ
+rankSum A ms = sum (map (λ m. getD A m 0) ms)
+
+-- "11, 12, 13" of a row
+unfoldable pub faultBy : ℕ → Entries → ℕ → List ℕ → Row → ℕ
+faultBy K E p A r =
+    ask (every (nextBy K E A) (branchNumbers E (r .node))) 11
+    (ask (own (sheetOf K E) p (r .node) (branchOf E (branchNumber E (r .node) (r .branch)))) 12
+    (ask (leb (suc (rankSum A (partNumbers E (branchNumber E (r .node) (r .branch))))) (r .rank)) 13
+    0))
+
+-- ---- the answer
+
+abbrev pub asFault : Fault → bitml.Fault
+asFault f = record { number = f .number; place = f .place }
+
+-- "10 over all rows", by the place of the row; 0 for no such row
+unfoldable pub twiceAt : ℕ → bitml.Fault
+twiceAt k = record { number = cond (eqb k 0) 0 10; place = k }
+
+-- "`check` prints the `liquid` line or a refusal"; "`liquid` has participant, rows, rank of node 0"
+unfoldable pub answerOf : List Row → bitml.Fault → Checked
+answerOf R f = cond (eqb (f .number) 0) (Liquid (length R) (rankOf R 0)) (Refused (f .number) (f .place))
+
+-- How many numbers of the buffer stay
+unfoldable pub keptOf : Checked → ℕ → ℕ
+keptOf (Liquid c k) n = 3 * n
+keptOf (Refused m i) n = 0
+
+-- "The row buffer holds the rows (for `check` as given) and is zero past them; it is wholly zero after .. a refused request": a buffer
+-- of so many numbers
+unfoldable pub bufferOf : ℕ → List Row → bitml.Fault → List ℕ
+bufferOf n R f = cond (eqb (f .number) 0) (filled n R) (filled n [])

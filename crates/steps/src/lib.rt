@@ -1,8 +1,8 @@
 // How the sheet's reader goes on: a field is read, the position moves, and the counts of entries stay.
+use cursors::number_from;
 use fields::Got;
 use fields::first;
 use fields::line_end;
-use fields::number;
 use fields::word;
 use tables::St;
 ghost use mathlib.Core.Path.{_≡_};
@@ -40,7 +40,7 @@ pub fn num(s: &[u8], st: St, max: usize) -> Read
     ensures { λ r. ⌜ r ≡ moved st (numberAt (now (s .entry)) (st .at) max) ⌝ }
 {
     let at = st.at;
-    let g = number(s, at, max);
+    let g = number_from(s, at, max);
     move_on(st, g)
 }
 

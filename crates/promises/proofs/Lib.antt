@@ -1,2 +1,3 @@
 pub mod Promised
+pub mod Whole
 pub mod Texts

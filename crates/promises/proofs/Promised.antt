@@ -1,13 +1,9 @@
 -- The two halves of the promises together: ranges of single entries, and how they hang together. Assumes nothing.
-use mathlib.Core.Path.{_≡_, sym, subst}
-use mathlib.Core.List.{List}
-use Prim.Native.Nat.{ℕ, _+_, _≤_, _<_}
+use Prim.Native.Nat.{ℕ, _<_}
 use native.Mathlib.Omega.{arith}
 use lib.ListN.{length}
 use Rattle.tables.specs.Entries.{Entries}
-use Rattle.tables.specs.SheetOf.{nodeEntryAt, branchEntryAt, branchCount, partCount}
-use Rattle.lines.specs.Sheet.{accepted, readSheet}
-use Rattle.reader.specs.Promises.{NodePromise, WithdrawPromise, SplitPromise, RevealPromise, RenewPromise, BranchPromise, DefPromise, Promises}
+use Rattle.reader.specs.Promises.{NodePromise, BranchPromise, DefPromise, Promises}
 use Rattle.ranges.specs.Ranged.{Ranged}
 use Rattle.ranges.proofs.Reading.{sheet-ranged}
 use Rattle.trees.specs.Shaped.{Shaped}

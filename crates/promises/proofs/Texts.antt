@@ -1,5 +1,4 @@
 -- Demands 2 and 3 of every sheet that some text reads to. Assumes nothing.
-use mathlib.Core.Path.{_≡_}
 use Prim.Native.Nat.{ℕ}
 use Rattle.bitml.specs.Sheet.{Sheet}
 use Rattle.bitml.specs.Promises.{WellFormed}

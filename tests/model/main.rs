@@ -1785,7 +1785,8 @@ fn speed(cases: &mut Cases) {
         }
         let last = printed.lines().last().unwrap_or("");
         println!("  {name}: {} bytes, {time:?}, {last}", request.len());
-        cases.holds("well under 10 ms", time < Duration::from_millis(10));
+        // A quadratic reader would take seconds; the wide margin keeps a busy machine out of the verdict.
+        cases.holds("well under 200 ms", time < Duration::from_millis(200));
     }
 }
 

@@ -9,4 +9,5 @@ pub mod Limits
 pub mod Promises
 pub mod Liquidity
 pub mod Demands
+pub mod Answers
 pub mod Stars

@@ -1,17 +1,18 @@
--- What is known of an event that was read: its fields' ranges, and that its line ends ahead, within the request. So no line is read
--- twice, and as many lines as bytes are all.
-use Prim.Native.Nat.{ℕ, zero, suc, _+_, _-_, _<_, _≤_}
+-- What is known of an event that was read: its fields' ranges, and that its line ends ahead, within the request, and has 7 bytes or
+-- more. So no line is read twice, and as many lines as bytes are all.
+use Prim.Native.Nat.{ℕ, zero, suc, _+_, _-_, _^_, _<_, _≤_}
 use mathlib.Core.Bool.{cond, _&&_}
 use mathlib.Core.List.{List}
 use mathlib.Core.Path.{_≡_, refl, sym, _∙_}
 use native.Mathlib.Omega.{arith}
 use lib.Dec.{ltb, eqb}
 use lib.ListN.{length, getD}
-use borrow.Author.Tests.{lt-ltb, le-ltb}
+use borrow.Author.Tests.{lt-ltb, le-ltb, eqb-true}
 use Rattle.events.specs.Events.{mostWait, mostField, mostValues, pairAt, afterPair, lastPairAt, waitAt, signAt, tellAt, fireAt, valuesFrom, valuesAt, renewAt, eventAt, nextOf, eventsFrom, eventsAt}
 use Rattle.events.specs.declared.Event.{Event}
 use Rattle.events.specs.declared.Pair.{Pair}
 use Rattle.fields.proofs.Laws.{number-max, number-end}
+use Rattle.fields.proofs.Words.{Bytes, first-long}
 use Rattle.fields.proofs.Ranges.{after-cases, cond-cases, never, below-end, between-end, first-end, line-end-next}
 use Rattle.fields.specs.Field.{comma, spelled, after, numberAt, belowAt, betweenAt, firstAt, lineEndAt}
 use Rattle.fields.specs.declared.Got.{Got}
@@ -42,7 +43,7 @@ none : {Q : Type 0} (n p a b e : ℕ) → pair.Bad n p ≡ pair.Two a b e → Q
 none n p a b e h = let z : _≡_ {A = ℕ} 0 1 = cc in absurd (omega arith)
 
 abbrev Small : List ℕ → ℕ → ℕ → ℕ → ℕ → Type 0
-Small s at a b q = (a ≤ mostField) × (b ≤ mostField) × (at < q) × (q ≤ length s)
+Small s at a b q = (a ≤ mostField) × (b ≤ mostField) × (at + 4 ≤ q) × (q ≤ length s)
 
 module _ (s : List ℕ) (at : ℕ) where
   pair-end : (a b q : ℕ) → pairAt s at ≡ pair.Two a b q → Small s at a b q
@@ -93,7 +94,8 @@ values-sound s (suc left) n at m q =
 
 -- ---- the lines
 
-module _ (s : List ℕ) (people at p : ℕ) (from : at ≤ p) where
+-- after a word, a line has a comma, a digit and the LF, or more
+module _ (s : List ℕ) (people at p : ℕ) (from : at ≤ p + 2) where
   bad : (n q : ℕ) → Sound s people at (event.Bad n q)
   unfolding Sound
   bad n q = tt
@@ -141,17 +143,20 @@ module _ (s : List ℕ) (people at p : ℕ) (from : at ≤ p) where
       let end = line-end-next s f v z i in
       (omega arith, omega arith, omega arith, let k : z - 1 ≡ f = omega arith in let none-before : n - 0 ≡ n = omega arith in rw k (rw none-before at (values .2)), omega arith, omega arith)
 
+-- every word of an event has 4 letters or more
+event-from : (s : List ℕ) (people at from : ℕ) → ((w e : ℕ) → firstAt s at ≡ Value w e → 256 ^ 3 ≤ w → from ≤ e + 2) → Sound s people from (eventAt s people at)
+unfolding eventAt Sound
+event-from s people at from long =
+    after-cases (Sound s people from) event.Bad (firstAt s at) _ (λ n q. tt) λ w e g.
+    cond-cases (Sound s people from) (eqb w (spelled "wait")) (waitAt s e) _ (λ t. wait-sound s people from e (long w e g (omega (arith, eqb-true w (spelled "wait") t)))) λ t.
+    cond-cases (Sound s people from) (eqb w (spelled "sign")) (signAt s people e) _ (λ t. sign-sound s people from e (long w e g (omega (arith, eqb-true w (spelled "sign") t)))) λ t.
+    cond-cases (Sound s people from) (eqb w (spelled "tell")) (tellAt s e) _ (λ t. tell-sound s people from e (long w e g (omega (arith, eqb-true w (spelled "tell") t)))) λ t.
+    cond-cases (Sound s people from) (eqb w (spelled "fire")) (fireAt s e) _ (λ t. fire-sound s people from e (long w e g (omega (arith, eqb-true w (spelled "fire") t)))) λ t.
+    cond-cases (Sound s people from) (eqb w (spelled "renew")) (renewAt s e) (event.Bad 3 at) (λ t. renew-sound s people from e (long w e g (omega (arith, eqb-true w (spelled "renew") t)))) λ t.
+    tt
+
 pub event-sound : (s : List ℕ) (people at : ℕ) → Sound s people at (eventAt s people at)
-unfolding eventAt
-event-sound s people at =
-    after-cases (Sound s people at) event.Bad (firstAt s at) _ (bad s people at at (omega arith)) λ w e g.
-    let l : at ≤ e = first-end s at w e g .0 in
-    cond-cases (Sound s people at) (eqb w (spelled "wait")) (waitAt s e) _ (λ t. wait-sound s people at e l) λ t.
-    cond-cases (Sound s people at) (eqb w (spelled "sign")) (signAt s people e) _ (λ t. sign-sound s people at e l) λ t.
-    cond-cases (Sound s people at) (eqb w (spelled "tell")) (tellAt s e) _ (λ t. tell-sound s people at e l) λ t.
-    cond-cases (Sound s people at) (eqb w (spelled "fire")) (fireAt s e) _ (λ t. fire-sound s people at e l) λ t.
-    cond-cases (Sound s people at) (eqb w (spelled "renew")) (renewAt s e) (event.Bad 3 at) (λ t. renew-sound s people at e l) λ t.
-    bad s people at e l 3 at
+event-sound s people at = event-from s people at at (λ w e g l. omega (arith, first-end s at w e g))
 
 sound-next : (s : List ℕ) (people at v q : ℕ) (x : Event) → Sound s people at x → nextOf x ≡ Value v q → (at < q) × (q ≤ length s)
 unfolding Sound nextOf
@@ -165,6 +170,12 @@ sound-next s people at v q (event.Bad n p) k h = never n p v q h
 -- a line that was read ends ahead, within the request
 pub event-ahead : (s : List ℕ) (people at v q : ℕ) → nextOf (eventAt s people at) ≡ Value v q → (at < q) × (q ≤ length s)
 event-ahead s people at v q h = sound-next s people at v q (eventAt s people at) (event-sound s people at) h
+
+-- a line has a word of 4 letters or more, a comma, a digit, and the LF
+pub event-long : (s : List ℕ) (people at v q : ℕ) → Bytes s → nextOf (eventAt s people at) ≡ Value v q → at + 7 ≤ q
+event-long s people at v q b h =
+    let x = event-from s people at (at + 6) (λ w e g l. omega (arith, first-long s at w e 3 b g l)) in
+    omega (arith, sound-next s people (at + 6) v q (eventAt s people at) x h .0)
 
 -- ---- all lines
 

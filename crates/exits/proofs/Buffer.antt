@@ -67,7 +67,7 @@ put-three : (F ys : List ℕ) (a b c : ℕ) → set (set (set (F ++ 0 ∷ 0 ∷ 
 put-three [] ys a b c = refl
 put-three (x ∷ F) ys a b c = ap (λ zs. x ∷ zs) (put-three F ys a b c)
 
-flat-length : (rs : List Row) → length (flat rs) ≡ 3 * length rs
+pub flat-length : (rs : List Row) → length (flat rs) ≡ 3 * length rs
 unfolding flat
 flat-length [] = omega arith
 flat-length (r ∷ rs) = omega (arith, flat-length rs)

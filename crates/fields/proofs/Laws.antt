@@ -118,7 +118,7 @@ unfolding numberOf
 number-long [] v h = let z : _≡_ {A = ℕ} 0 1 = cc in absurd (omega arith)
 number-long (b ∷ t) v h = omega arith
 
-text-within : (s : List ℕ) (p : ℕ) → length (textAt s p) ≤ fieldLen (drop p s)
+pub text-within : (s : List ℕ) (p : ℕ) → length (textAt s p) ≤ fieldLen (drop p s)
 unfolding textAt
 text-within s p = rw length-take (omega arith)
 

@@ -1,16 +1,19 @@
--- A word's number is its own: no other text has it. So a test on numbers is a test on texts.
-use Prim.Native.Nat.{ℕ, suc, _+_, _*_, _<_, _≤_, _^_}
+-- A word's number is its own: no other text has it. So a test on numbers is a test on texts, and a number says how long its word is.
+use Prim.Native.Nat.{ℕ, zero, suc, _+_, _*_, _<_, _≤_, _^_}
 use mathlib.Core.List.{List, [], _∷_}
 use mathlib.Core.Logic.{by-cases}
 use mathlib.Core.Path.{_≡_, refl, sym, _∙_}
 use native.Mathlib.Decide.{decLe}
-use native.Mathlib.Nat.{pow-suc, pow-le-pow-right, mul-le-mul-right}
+use native.Mathlib.Nat.{pow-suc, one-le-pow, pow-le-pow-right, mul-le-mul-right}
 use native.Mathlib.Omega.{arith}
 use lib.Dec.{ltb, eqb, lit<}
-use lib.ListN.{length, getD}
+use lib.ListN.{length, getD, take, drop}
+use lib.Seq.{getD-drop}
 use borrow.Author.Tests.{eqb-false}
-use Rattle.fields.proofs.Ranges.{cond-cases}
-use Rattle.fields.specs.Field.{packed, packedOf}
+use Rattle.fields.proofs.Laws.{text-within}
+use Rattle.fields.proofs.Ranges.{cond-cases, never}
+use Rattle.fields.specs.Field.{fieldLen, textAt, endAt, packed, packedOf, wordFrom, firstAt}
+use Rattle.fields.specs.declared.Got.the-variants.{Value, Bad}
 
 abbrev pub Bytes : List ℕ → Type 0
 Bytes t = (i : ℕ) → getD t i 0 < 256
@@ -70,3 +73,33 @@ word-own (b ∷ t) (c ∷ u) h k n e =
     (λ l. by-cases (decLe (suc (length u)) (length t))
     (λ m. absurd (omega (arith, same, shorter u t (0 * 256 + c) (0 * 256 + b) (λ i. k (suc i)) (omega arith) (omega arith) m)))
     (λ m. same-length (b ∷ t) (c ∷ u) 0 0 h k (omega arith) same .1))
+
+-- ---- the number says how long the word is
+
+word-long : (t : List ℕ) (k : ℕ) → Bytes t → 256 ^ k ≤ packedOf t → k < length t
+word-long t k h l =
+    let x = word-number t (λ z. absurd (omega (arith, one-le-pow k 256 (lit< tt)))) in
+    by-cases (decLe (length t) k)
+    (λ m. absurd (let top : 256 ^ length t ≤ 256 ^ k = pow-le-pow-right (lit< tt) m in omega (arith, x .0, packed-most t 0 h)))
+    (λ m. omega arith)
+
+bytes-take : (n : ℕ) (t : List ℕ) → Bytes t → Bytes (take n t)
+bytes-take zero t h i = omega arith
+bytes-take (suc n) [] h i = omega arith
+bytes-take (suc n) (b ∷ t) h zero = h 0
+bytes-take (suc n) (b ∷ t) h (suc i) = bytes-take n t (λ j. h (suc j)) i
+
+bytes-text : (s : List ℕ) (p : ℕ) → Bytes s → Bytes (textAt s p)
+unfolding textAt
+bytes-text s p h = bytes-take (fieldLen (drop p s)) (drop p s) (λ i. rw (getD-drop p s i 0) (h (p + i)))
+
+-- a line's first field, by the number of its word
+pub first-long : (s : List ℕ) (at w q k : ℕ) → Bytes s → firstAt s at ≡ Value w q → 256 ^ k ≤ w → at + k < q
+unfolding firstAt wordFrom endAt
+first-long s at w q k h =
+    cond-cases (λ r. r ≡ Value w q → 256 ^ k ≤ w → at + k < q) (ltb at (length s)) (wordFrom s at) (Bad 2 at)
+    (λ b e l.
+    let i : packedOf (textAt s at) ≡ w = cc in
+    let j : at + fieldLen (drop at s) ≡ q = cc in
+    omega (arith, word-long (textAt s at) k (bytes-text s at h) (omega arith), text-within s at))
+    (λ b e l. never 2 at w q e)

@@ -1,55 +1,63 @@
--- A request that is read whole has a sheet that is read. Assumes nothing.
+-- A request that is read whole has a sheet that is read, and a last part. Assumes nothing.
 use mathlib.Core.Path.{_≡_, refl, subst}
 use mathlib.Core.List.{List}
-use Prim.Native.Nat.{ℕ}
+use Prim.Native.Nat.{ℕ, _<_}
+use lib.ListN.{length}
+use Rattle.bitml.specs.Rows.{Row}
 use Rattle.fields.specs.declared.Got.{Got}
 use Rattle.fields.specs.declared.Got.the-variants as got
 use Rattle.tables.specs.Entries.{Entries}
+use Rattle.tables.specs.SheetOf.{nodeEntryAt, defEntryAt}
 use Rattle.lines.specs.Sheet.{SheetRead, accepted, readSheet}
 use Rattle.lines.specs.Sheet.{refused as unread}
 use Rattle.requests.specs.declared.Part.{Part}
 use Rattle.requests.specs.declared.Part.the-variants as part
-use Rattle.requests.specs.Rows.{RowEntry}
+use Rattle.requests.specs.Part.{lastPartAt}
+use Rattle.requests.specs.Rows.{rowsAt}
+use Rattle.requests.proofs.Sound.{PartSound, part-sound, rows-fit}
 use Rattle.events.specs.declared.Lines.{Lines}
 use Rattle.events.specs.declared.Lines.the-variants as lines
 use Rattle.events.specs.Events.{eventsAt}
 use Rattle.reader.specs.Promises.{Promises}
-use Rattle.reader.specs.Request.{Reading, request, refused, refusedAt, fromRows, fromLines, fromPart, fromSheet, readRequest}
+use Rattle.reader.specs.Request.{Reading, LastPart, request, refused, make, check, play, refusedAt, fromRows, fromLines, fromPart, fromSheet, readRequest}
+use Rattle.promises.specs.Parts.{RowsPromise, PlayPromise, PartPromise}
 use Rattle.promises.specs.Texts.{Promised, PromisedWhole}
 use Rattle.promises.proofs.Promised.{promised}
 
--- Q holds of K and the entries of a request
-unfoldable onRequest : (ℕ → Entries → Type 0) → Reading → Type 0
-onRequest Q (request K E l) = Q K E
-onRequest Q (refused n l f) = Unit {0}
+-- what is promised of a request, where it is one
+unfoldable Kept : List ℕ → Reading → Type 0
+Kept s (request K E l) = Promises K E × PartPromise s K E l
+Kept s (refused n l f) = Unit {0}
 
-refused-any : (Q : ℕ → Entries → Type 0) (s : List ℕ) (n p : ℕ) → onRequest Q (refusedAt s n p)
-unfolding refusedAt onRequest
-refused-any Q s n p = tt
+refused-kept : (s : List ℕ) (n p : ℕ) → Kept s (refusedAt s n p)
+unfolding refusedAt Kept
+refused-kept s n p = tt
 
-module _ (Q : ℕ → Entries → Type 0) (s : List ℕ) (K : ℕ) (E : Entries) (q : Q K E) where
-  rows-any : (p : ℕ) (R : List RowEntry) (g : Got) → onRequest Q (fromRows s K E p R g)
-  unfolding fromRows onRequest
-  rows-any p R (got.Value n e) = q
-  rows-any p R (got.Bad n e) = refused-any Q s n e
+module _ (s : List ℕ) (K : ℕ) (E : Entries) (q : Promises K E) where
+  rows-kept : (p : ℕ) (R : List Row) (g : Got) → p < K → RowsPromise E R → Kept s (fromRows s K E p R g)
+  unfolding fromRows Kept PartPromise
+  rows-kept p R (got.Value n e) h k = (q, (h, k))
+  rows-kept p R (got.Bad n e) h k = refused-kept s n e
 
-  lines-any : (v e : ℕ) (l : Lines) → onRequest Q (fromLines s K E v e l)
-  unfolding fromLines onRequest
-  lines-any v e lines.Good = q
-  lines-any v e (lines.Bad n p) = refused-any Q s n p
+  lines-kept : (v e : ℕ) (l : Lines) → (l ≡ lines.Good → PlayPromise s K E v e) → Kept s (fromLines s K E v e l)
+  unfolding fromLines Kept PartPromise
+  lines-kept v e lines.Good h = (q, h refl)
+  lines-kept v e (lines.Bad n p) h = refused-kept s n p
 
-  part-any : (o : Part) → onRequest Q (fromPart s K E o)
-  unfolding fromPart onRequest
-  part-any (part.Make p) = q
-  part-any (part.Check p e) = rows-any p _ _
-  part-any (part.Play v e) = lines-any v e (eventsAt s K e)
-  part-any (part.Bad n p) = refused-any Q s n p
+  part-kept : (o : Part) → PartSound s K (defEntryAt E 0 .secrets) o → Kept s (fromPart s K E o)
+  unfolding fromPart Kept PartPromise PartSound
+  part-kept (part.Make p) h = (q, h)
+  part-kept (part.Check p e) h =
+      let fit = rows-fit s (λ n. nodeEntryAt E n .count) (length (E .nodes)) e in
+      rows-kept p _ _ (h .0) (record { few = fit .0; each = fit .1 })
+  part-kept (part.Play v e) h = lines-kept v e (eventsAt s K e) λ g. record { values = h .0; ahead = h .1; inside = h .2; events = g }
+  part-kept (part.Bad n p) h = refused-kept s n p
 
-sheet-any : (s : List ℕ) (w : SheetRead) → readSheet s ≡ w → onRequest Promises (fromSheet s w)
-unfolding fromSheet Promised onRequest
-sheet-any s (accepted K at E) e = part-any Promises s K E (promised s K at E e) _
-sheet-any s (unread n p) e = refused-any Promises s n p
+sheet-kept : (s : List ℕ) (w : SheetRead) → readSheet s ≡ w → Kept s (fromSheet s w)
+unfolding fromSheet Promised
+sheet-kept s (accepted K at E) e = part-kept s K E (promised s K at E e) _ (part-sound s K (defEntryAt E 0 .secrets) at)
+sheet-kept s (unread n p) e = refused-kept s n p
 
 pub promised-whole : PromisedWhole
-unfolding PromisedWhole readRequest onRequest
-promised-whole s K E l e = subst (onRequest Promises) e (sheet-any s (readSheet s) refl)
+unfolding PromisedWhole readRequest Kept
+promised-whole s K E l e = subst (Kept s) e (sheet-kept s (readSheet s) refl)

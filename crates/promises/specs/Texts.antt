@@ -16,14 +16,15 @@ use Rattle.tables.specs.SheetOf.{sheetOf}
 use Rattle.lines.specs.Sheet.{accepted, readSheet}
 use Rattle.reader.specs.Promises.{Promises}
 use Rattle.reader.specs.Request.{request, LastPart, readRequest}
+use Rattle.promises.specs.Parts.{PartPromise}
 
 -- "The judging part knows a sheet only by what the reader promises": every sheet that is read keeps all promises
 unfoldable pub Promised : Type 0
 Promised = (s : List ℕ) (K at : ℕ) (E : Entries) → readSheet s ≡ accepted K at E → Promises K E
 
--- and so does the sheet of every request that is read whole
+-- and so does the sheet of every request that is read whole, and its last part keeps its own
 unfoldable pub PromisedWhole : Type 0
-PromisedWhole = (s : List ℕ) (K : ℕ) (E : Entries) (l : LastPart) → readRequest s ≡ request K E l → Promises K E
+PromisedWhole = (s : List ℕ) (K : ℕ) (E : Entries) (l : LastPart) → readRequest s ≡ request K E l → Promises K E × PartPromise s K E l
 
 -- The demands of one sheet and one participant
 pub record OfSheet (s : Sheet) (p : ℕ) : Type 0 where

@@ -21,7 +21,8 @@ use Rattle.requests.specs.Part.{lastPartAt}
 use Rattle.requests.specs.declared.Part.the-variants as part
 use Rattle.requests.specs.declared.RowLine.{RowLine}
 use Rattle.requests.specs.declared.RowLine.the-variants as line
-use Rattle.requests.specs.Rows.{RowEntry, countIn, rowNumbersAt, rowAt, Rows, rowsWith, withLine, mostRows, rowsFrom, rowsAt, rowsOf, Holds}
+use Rattle.bitml.specs.Rows.{Row}
+use Rattle.requests.specs.Rows.{countIn, rowNumbersAt, rowAt, Rows, rowsWith, withLine, mostRows, rowsFrom, rowsAt, rowsOf, Holds}
 use Rattle.requests.proofs.Sound.{rows-count}
 use Rattle.reader.specs.declared.Request.{Request}
 use Rattle.reader.specs.declared.Request.the-variants as code
@@ -43,12 +44,12 @@ module _ (s : List ℕ) (f g : ℕ → ℕ) (nodes : ℕ) (same : (n : ℕ) → 
   unfolding rowAt
   row-same at = after-same line.Bad (firstAt s at) _ _ λ w e h. rw (numbers-same e)
 
-  line-same : (xs : List RowEntry) (go go′ : List RowEntry → ℕ → Rows) (l : RowLine) → ((ys : List RowEntry) (e : ℕ) → go ys e ≡ go′ ys e) → withLine xs go l ≡ withLine xs go′ l
+  line-same : (xs : List Row) (go go′ : List Row → ℕ → Rows) (l : RowLine) → ((ys : List Row) (e : ℕ) → go ys e ≡ go′ ys e) → withLine xs go l ≡ withLine xs go′ l
   unfolding withLine
   line-same xs go go′ (line.Row n b k e) h = h _ e
   line-same xs go go′ (line.Bad n p) h = refl
 
-  rows-from-same : (left : ℕ) (xs : List RowEntry) (at : ℕ) → rowsFrom s f nodes left xs at ≡ rowsFrom s g nodes left xs at
+  rows-from-same : (left : ℕ) (xs : List Row) (at : ℕ) → rowsFrom s f nodes left xs at ≡ rowsFrom s g nodes left xs at
   unfolding rowsFrom
   rows-from-same zero xs at = refl
   rows-from-same (suc left) xs at =

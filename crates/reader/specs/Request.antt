@@ -12,7 +12,8 @@ use Rattle.lines.specs.Sheet.{refused as unread}
 use Rattle.requests.specs.declared.Part.{Part}
 use Rattle.requests.specs.declared.Part.the-variants as part
 use Rattle.requests.specs.Part.{lastPartAt}
-use Rattle.requests.specs.Rows.{RowEntry, rowsOf, Rows, rowsAt}
+use Rattle.bitml.specs.Rows.{Row}
+use Rattle.requests.specs.Rows.{rowsOf, Rows, rowsAt}
 use Rattle.events.specs.declared.Lines.{Lines}
 use Rattle.events.specs.declared.Lines.the-variants as lines
 use Rattle.events.specs.Events.{eventsAt}
@@ -23,7 +24,7 @@ use Rattle.reader.specs.declared.Request.the-variants as code
 -- of `play` the positions of its values and of its event lines
 pub data LastPart : Type 0 where
   make : ℕ → LastPart
-  check : ℕ → List RowEntry → LastPart
+  check : ℕ → List Row → LastPart
   play : ℕ → ℕ → LastPart
 
 -- K, the sheet's entries and the last part; or "`refused`,number,line,field"
@@ -37,7 +38,7 @@ refusedAt s n p = refused n (placeOf s p .line) (placeOf s p .field)
 
 module _ (s : List ℕ) (K : ℕ) (E : Entries) where
   -- the count of rows, or the first line that is none
-  unfoldable pub fromRows : ℕ → List RowEntry → Got → Reading
+  unfoldable pub fromRows : ℕ → List Row → Got → Reading
   fromRows p R (got.Value n e) = request K E (check p R)
   fromRows p R (got.Bad n q) = refusedAt s n q
 

@@ -12,8 +12,10 @@ use Rattle.fields.proofs.Ranges.{after-cases, cond-cases, never}
 use Rattle.fields.specs.Field.{spelled, after, numberAt, wordAt}
 use Rattle.fields.specs.declared.Got.{Got}
 use Rattle.fields.specs.declared.Got.the-variants.{Value, Bad}
+use Rattle.tables.specs.Entries.{firstOf}
 use Rattle.requests.specs.Part.{mostValue, valueAt, pastOf, pastValueAt, pastValuesAt}
-use Rattle.requests.specs.Rows.{mostRows, RowEntry, rowEntry, rowIn, rowsOf, pastRows, Rows, rowsWith, rowAt, noRoomAt, withLine, rowsFrom, Holds}
+use Rattle.bitml.specs.Rows.{Row}
+use Rattle.requests.specs.Rows.{mostRows, row, rowIn, rowsOf, pastRows, Rows, rowsWith, rowAt, noRoomAt, withLine, rowsFrom, Holds}
 use Rattle.requests.specs.declared.RowLine.{RowLine}
 use Rattle.tables.proofs.Laws.{run-3, sets-before, sets-at, firstOf-length, firstOf-more}
 use Rattle.requests.specs.declared.Commitment.the-variants as commitment
@@ -56,15 +58,15 @@ module _ (u : List ℕ) (i n b k : ℕ) (fits : 3 * i + 3 ≤ length u) where
         sets-before (n ∷ b ∷ k ∷ []) u (3 * i) (3 * j + 2) (omega arith),
       )
 
-  put : rowIn (sets u (3 * i) (n ∷ b ∷ k ∷ [])) i ≡ rowEntry n b k
+  put : rowIn (sets u (3 * i) (n ∷ b ∷ k ∷ [])) i ≡ row n b k
   put =
       let z : 3 * i + 0 ≡ 3 * i = omega arith in
       let first = rw z at (sets-at (n ∷ b ∷ k ∷ []) u (3 * i) 0 (omega arith) fits) in
       rw (first, sets-at (n ∷ b ∷ k ∷ []) u (3 * i) 1 (omega arith) fits, sets-at (n ∷ b ∷ k ∷ []) u (3 * i) 2 (omega arith) fits)
 
-  pub row-more : rowsOf (i + 1) (set (set (set u (3 * i) n) (3 * i + 1) b) (3 * i + 2) k) ≡ rowsOf i u ++ (rowEntry n b k ∷ [])
+  pub row-more : rowsOf (i + 1) (set (set (set u (3 * i) n) (3 * i + 1) b) (3 * i + 2) k) ≡ rowsOf i u ++ (row n b k ∷ [])
   unfolding rowsOf
-  row-more = rw run-3 (firstOf-more (rowIn (sets u (3 * i) (n ∷ b ∷ k ∷ []))) (rowIn u) i (rowEntry n b k) kept put)
+  row-more = rw run-3 (firstOf-more (rowIn (sets u (3 * i) (n ∷ b ∷ k ∷ []))) (rowIn u) i (row n b k) kept put)
 
 pub row-rest : (u : List ℕ) (i n b k : ℕ) → pastRows (i + 1) (set (set (set u (3 * i) n) (3 * i + 1) b) (3 * i + 2) k) ≡ pastRows (i + 1) u
 unfolding pastRows
@@ -82,7 +84,7 @@ rest-more u v i h =
 
 -- ---- the lines of rows
 
-module _ (s : List ℕ) (counts : ℕ → ℕ) (nodes : ℕ) (xs : List RowEntry) (at : ℕ) where
+module _ (s : List ℕ) (counts : ℕ → ℕ) (nodes : ℕ) (xs : List Row) (at : ℕ) where
   pub rows-end : (left n : ℕ) → length xs ≡ n → length s ≤ at → rowsWith xs (Value n at) ≡ rowsFrom s counts nodes left xs at
   unfolding rowsFrom
   rows-end zero n l h = rw (le-ltb _ _ h, l)
@@ -94,13 +96,21 @@ module _ (s : List ℕ) (counts : ℕ → ℕ) (nodes : ℕ) (xs : List RowEntry
 
   module _ (i : ℕ) (g : RowLine) (room : i < mostRows) (more : at < length s) (read : g ≡ rowAt s counts nodes at) where
     pub rows-on : (n b k e : ℕ) → g ≡ line.Row n b k e
-        → rowsFrom s counts nodes (mostRows - (i + 1)) (xs ++ (rowEntry n b k ∷ [])) e ≡ rowsFrom s counts nodes (mostRows - i) xs at
+        → rowsFrom s counts nodes (mostRows - (i + 1)) (xs ++ (row n b k ∷ [])) e ≡ rowsFrom s counts nodes (mostRows - i) xs at
     unfolding rowsFrom withLine
     rows-on n b k e h = let j : mostRows - i ≡ suc (mostRows - (i + 1)) = omega arith in rw (j, lt-ltb _ _ more, ← read, h)
 
     pub rows-bad : (m p : ℕ) → g ≡ line.Bad m p → rowsWith xs (Bad m p) ≡ rowsFrom s counts nodes (mostRows - i) xs at
     unfolding rowsFrom withLine
     rows-bad m p h = let j : mostRows - i ≡ suc (mostRows - (i + 1)) = omega arith in rw (j, lt-ltb _ _ more, ← read, h)
+
+pub rows-none : (u : List ℕ) → rowsOf 0 u ≡ []
+unfolding rowsOf firstOf
+rows-none u = refl
+
+pub rows-next : (u : List ℕ) (i : ℕ) → rowsOf (i + 1) u ≡ rowsOf i u ++ (rowIn u i ∷ [])
+unfolding rowsOf firstOf
+rows-next u i = ap (λ k. rowsOf k u) (let z : i + 1 ≡ suc i = omega arith in z)
 
 pub rows-length : (n : ℕ) (u : List ℕ) → length (rowsOf n u) ≡ n
 unfolding rowsOf

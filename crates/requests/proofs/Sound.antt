@@ -14,10 +14,10 @@ use Rattle.fields.specs.declared.Got.{Got}
 use Rattle.fields.specs.declared.Got.the-variants.{Value, Bad}
 use Rattle.requests.proofs.Laws.{past-end}
 use Rattle.requests.specs.Part.{participantAt, pastValueAt, pastValuesAt, makeAt, checkAt, playAt, lastPartAt}
-use Rattle.requests.specs.Rows.{mostRank, mostRows, RowEntry, rowEntry, rowIn, rowsOf, RowFits, Rows, rowsWith, rowNumbersAt, rowAt, noRoomAt, withLine, rowsFrom, rowsAt, Holds}
+use Rattle.bitml.specs.Rows.{Row}
+use Rattle.requests.specs.Rows.{mostRank, mostRows, row, rowIn, rowsOf, RowFits, Rows, rowsWith, rowNumbersAt, rowAt, noRoomAt, withLine, rowsFrom, rowsAt}
 use Rattle.requests.specs.declared.Part.{Part}
 use Rattle.requests.specs.declared.RowLine.{RowLine}
-use Rattle.tables.proofs.Laws.{firstOf-getD}
 use Rattle.requests.specs.declared.Part.the-variants as part
 use Rattle.requests.specs.declared.RowLine.the-variants as line
 
@@ -86,11 +86,11 @@ module _ (s : List ℕ) (people secrets : ℕ) where
 
 module _ (counts : ℕ → ℕ) (nodes : ℕ) where
   unfoldable LineSound : RowLine → Type 0
-  LineSound (line.Row n b k e) = RowFits counts nodes (rowEntry n b k)
+  LineSound (line.Row n b k e) = RowFits counts nodes (row n b k)
   LineSound (line.Bad n p) = Unit {0}
 
-  Fit : List RowEntry → Type 0
-  Fit xs = (i : ℕ) → i < length xs → RowFits counts nodes (getD xs i (rowEntry 0 0 0))
+  Fit : List Row → Type 0
+  Fit xs = (i : ℕ) → i < length xs → RowFits counts nodes (getD xs i (row 0 0 0))
 
 -- what was read fits, is no more than there was room for, and is counted
 record RowsSound (counts : ℕ → ℕ) (nodes room : ℕ) (w : Rows) : Type 0 where
@@ -117,14 +117,14 @@ module _ (s : List ℕ) (counts : ℕ → ℕ) (nodes : ℕ) where
       })
       (λ x. tt)
 
-  fit-more : (xs : List RowEntry) (r : RowEntry) → Fit counts nodes xs → RowFits counts nodes r → Fit counts nodes (xs ++ (r ∷ []))
+  fit-more : (xs : List Row) (r : Row) → Fit counts nodes xs → RowFits counts nodes r → Fit counts nodes (xs ++ (r ∷ []))
   unfolding Fit
   fit-more xs r h k i l =
       by-cases (decLe (length xs) i)
-      (λ o. let e : i ≡ length xs = omega (arith, simp length-append at l) in rw (e, getD-at xs r [] (rowEntry 0 0 0) (length xs) refl) k)
-      (λ o. let j : i < length xs = omega arith in rw (List·getD-append xs (r ∷ []) (rowEntry 0 0 0) i j) (h i j))
+      (λ o. let e : i ≡ length xs = omega (arith, simp length-append at l) in rw (e, getD-at xs r [] (row 0 0 0) (length xs) refl) k)
+      (λ o. let j : i < length xs = omega arith in rw (List·getD-append xs (r ∷ []) (row 0 0 0) i j) (h i j))
 
-  ended : (xs : List RowEntry) (at room : ℕ) → Fit counts nodes xs → length xs ≤ room → RowsSound counts nodes room (rowsWith xs (Value (length xs) at))
+  ended : (xs : List Row) (at room : ℕ) → Fit counts nodes xs → length xs ≤ room → RowsSound counts nodes room (rowsWith xs (Value (length xs) at))
   ended xs at room h l = record { fit = h; few = l; counted = λ n e z. cc }
 
   full : {Q : Type 0} (at n e : ℕ) → noRoomAt s at ≡ Value n e → Q
@@ -133,16 +133,16 @@ module _ (s : List ℕ) (counts : ℕ → ℕ) (nodes : ℕ) where
       after-cases (λ r. r ≡ Value n e → Q) Bad (firstAt s at) _ (λ m p h. never m p n e h) λ w f g.
       cond-cases (λ r. r ≡ Value n e → Q) (eqb w (spelled "row")) (Bad 7 at) (Bad 3 at) (λ b h. never 7 at n e h) (λ b h. never 3 at n e h)
 
-  line-on : (xs : List RowEntry) (left : ℕ) (go : List RowEntry → ℕ → Rows) (l : RowLine) → LineSound counts nodes l → Fit counts nodes xs
-      → ((ys : List RowEntry) (e : ℕ) → Fit counts nodes ys → RowsSound counts nodes (length ys + left) (go ys e))
+  line-on : (xs : List Row) (left : ℕ) (go : List Row → ℕ → Rows) (l : RowLine) → LineSound counts nodes l → Fit counts nodes xs
+      → ((ys : List Row) (e : ℕ) → Fit counts nodes ys → RowsSound counts nodes (length ys + left) (go ys e))
       → RowsSound counts nodes (length xs + suc left) (withLine xs go l)
   unfolding withLine LineSound
   line-on xs left go (line.Row n b k e) f h more =
-      let w = more (xs ++ (rowEntry n b k ∷ [])) e (fit-more xs (rowEntry n b k) h f) in
-      record { fit = w .fit; few = omega (arith, w .few, length-append xs (rowEntry n b k ∷ [])); counted = w .counted }
+      let w = more (xs ++ (row n b k ∷ [])) e (fit-more xs (row n b k) h f) in
+      record { fit = w .fit; few = omega (arith, w .few, length-append xs (row n b k ∷ [])); counted = w .counted }
   line-on xs left go (line.Bad m p) f h more = record { fit = h; few = omega arith; counted = λ n e z. never m p n e z }
 
-  rows-sound : (left : ℕ) (xs : List RowEntry) (at : ℕ) → Fit counts nodes xs → RowsSound counts nodes (length xs + left) (rowsFrom s counts nodes left xs at)
+  rows-sound : (left : ℕ) (xs : List Row) (at : ℕ) → Fit counts nodes xs → RowsSound counts nodes (length xs + left) (rowsFrom s counts nodes left xs at)
   unfolding rowsFrom
   rows-sound zero xs at h =
       cond-cases (RowsSound counts nodes (length xs + 0)) (ltb at (length s)) _ _
@@ -153,19 +153,14 @@ module _ (s : List ℕ) (counts : ℕ → ℕ) (nodes : ℕ) where
       (λ b. line-on xs left (rowsFrom s counts nodes left) (rowAt s counts nodes at) (line-sound at) h (rows-sound left))
       (λ b. ended xs at (length xs + suc left) h (omega arith))
 
--- what a buffer holds after `check` was read
-pub rows-fit : (s : List ℕ) (counts : ℕ → ℕ) (nodes from : ℕ) (r : Got) (u₀ u : List ℕ) (n e : ℕ) → Holds (rowsAt s counts nodes from) r u₀ u → r ≡ Value n e
-    → (n ≤ mostRows) × ((i : ℕ) → i < n → RowFits counts nodes (rowIn u i))
-unfolding rowsAt rowsOf Fit
-rows-fit s counts nodes from r u₀ u n e holds h =
+-- the rows that were read are those that document 01 allows
+pub rows-fit : (s : List ℕ) (counts : ℕ → ℕ) (nodes from : ℕ)
+    → (length (rowsAt s counts nodes from .rows) ≤ mostRows)
+    × ((i : ℕ) → i < length (rowsAt s counts nodes from .rows) → RowFits counts nodes (getD (rowsAt s counts nodes from .rows) i (row 0 0 0)))
+unfolding rowsAt Fit
+rows-fit s counts nodes from =
     let w = rows-sound s counts nodes mostRows [] from (λ i l. absurd (omega arith)) in
-    let xs = rowsFrom s counts nodes mostRows [] from .rows in
-    let k : n ≡ length xs = w .counted n e (sym (holds .answer) ∙ h) in (
-      omega (arith, w .few),
-      λ i l.
-          let same : getD xs i (rowEntry 0 0 0) ≡ rowIn u i = ap (λ x. getD x i (rowEntry 0 0 0)) (sym (holds .rows)) ∙ firstOf-getD (rowIn u) (length xs) i (rowEntry 0 0 0) (omega arith) in
-          rw same at (w .fit i (omega arith)),
-    )
+    (omega (arith, w .few), w .fit)
 
 -- the count that was answered is that of the rows
 pub rows-count : (s : List ℕ) (counts : ℕ → ℕ) (nodes from n e : ℕ) → rowsAt s counts nodes from .answer ≡ Value n e → n ≡ length (rowsAt s counts nodes from .rows)

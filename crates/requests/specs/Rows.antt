@@ -5,6 +5,7 @@ use mathlib.Core.List.{List, [], _∷_, _++_}
 use mathlib.Core.Path.{_≡_}
 use lib.Dec.{ltb, eqb}
 use lib.ListN.{length, getD, drop}
+use Rattle.bitml.specs.Rows.{Row}
 use Rattle.fields.specs.Field.{spelled, after, belowAt, betweenAt, firstAt, lineEndAt}
 use Rattle.fields.specs.declared.Got.{Got}
 use Rattle.fields.specs.declared.Got.the-variants.{Value, Bad}
@@ -19,20 +20,15 @@ abbrev pub mostRows : ℕ
 mostRows = 512
 
 -- "`row`,node,branch,rank"
-pub record RowEntry : Type 0 where
-  pub node : ℕ
-  pub branch : ℕ
-  pub rank : ℕ
-
-abbrev pub rowEntry : ℕ → ℕ → ℕ → RowEntry
-rowEntry n b k = record { node = n; branch = b; rank = k }
+abbrev pub row : ℕ → ℕ → ℕ → Row
+row n b k = record { node = n; branch = b; rank = k }
 
 -- ---- a buffer: row i stands in its cells 3 * i, 3 * i + 1 and 3 * i + 2
 
-abbrev pub rowIn : List ℕ → ℕ → RowEntry
-rowIn u i = rowEntry (getD u (3 * i) 0) (getD u (3 * i + 1) 0) (getD u (3 * i + 2) 0)
+abbrev pub rowIn : List ℕ → ℕ → Row
+rowIn u i = row (getD u (3 * i) 0) (getD u (3 * i + 1) 0) (getD u (3 * i + 2) 0)
 
-unfoldable pub rowsOf : ℕ → List ℕ → List RowEntry
+unfoldable pub rowsOf : ℕ → List ℕ → List Row
 rowsOf n u = firstOf (rowIn u) n
 
 -- the cells past n rows
@@ -46,7 +42,7 @@ abbrev pub countIn : List ℕ → ℕ → ℕ
 countIn t n = nodeIn t n .count
 
 -- a row that document 01 allows: its node and branch are there, its rank is "1 to 65,535"
-pub record RowFits (counts : ℕ → ℕ) (nodes : ℕ) (r : RowEntry) : Type 0 where
+pub record RowFits (counts : ℕ → ℕ) (nodes : ℕ) (r : Row) : Type 0 where
   pub has-node : r .node < nodes
   pub has-branch : r .branch < counts (r .node)
   pub has-rank : 1 ≤ r .rank
@@ -54,10 +50,10 @@ pub record RowFits (counts : ℕ → ℕ) (nodes : ℕ) (r : RowEntry) : Type 0 
 
 -- what was read: the rows before the request's end or the first refusal, and how many, or the refusal
 pub record Rows : Type 0 where
-  pub rows : List RowEntry
+  pub rows : List Row
   pub answer : Got
 
-abbrev pub rowsWith : List RowEntry → Got → Rows
+abbrev pub rowsWith : List Row → Got → Rows
 rowsWith xs g = record { rows = xs; answer = g }
 
 module _ (s : List ℕ) (counts : ℕ → ℕ) (nodes : ℕ) where
@@ -77,12 +73,12 @@ unfoldable pub noRoomAt : List ℕ → ℕ → Got
 noRoomAt s at = after Bad (firstAt s at) λ w e. cond (eqb w (spelled "row")) (Bad 7 at) (Bad 3 at)
 
 -- one line more, and the lines after it
-unfoldable pub withLine : List RowEntry → (List RowEntry → ℕ → Rows) → RowLine → Rows
-withLine xs go (line.Row n b k e) = go (xs ++ (rowEntry n b k ∷ [])) e
+unfoldable pub withLine : List Row → (List Row → ℕ → Rows) → RowLine → Rows
+withLine xs go (line.Row n b k e) = go (xs ++ (row n b k ∷ [])) e
 withLine xs go (line.Bad n p) = rowsWith xs (Bad n p)
 
 -- after the rows xs, with room for so many more
-unfoldable pub rowsFrom : List ℕ → (ℕ → ℕ) → ℕ → ℕ → List RowEntry → ℕ → Rows
+unfoldable pub rowsFrom : List ℕ → (ℕ → ℕ) → ℕ → ℕ → List Row → ℕ → Rows
 rowsFrom s counts nodes zero xs at = cond (ltb at (length s)) (rowsWith xs (noRoomAt s at)) (rowsWith xs (Value (length xs) at))
 rowsFrom s counts nodes (suc left) xs at =
     cond (ltb at (length s)) (withLine xs (rowsFrom s counts nodes left) (rowAt s counts nodes at)) (rowsWith xs (Value (length xs) at))

@@ -12,7 +12,7 @@ ghost use mathlib.Core.List.{[], _∷_, _++_};
 ghost use Prim.Native.Nat.{_+_, _≤_, _<_};
 ghost use lib.ListN.{length};
 ghost use Rattle.requests.specs.Part.{lastPartAt, makeAt, checkAt, playAt, participantAt, valueAt, pastValueAt, pastValuesAt};
-ghost use Rattle.requests.specs.Rows.{countIn, rowAt, rowNumbersAt, noRoomAt, rowsOf, pastRows, rowEntry, rowsAt, Holds};
+ghost use Rattle.requests.specs.Rows.{countIn, rowAt, rowNumbersAt, noRoomAt, rowsOf, pastRows, row, rowsAt, Holds};
 
 const MAKE: usize = ((b'm' as usize * 256 + b'a' as usize) * 256 + b'k' as usize) * 256
     + b'e' as usize;
@@ -268,7 +268,7 @@ fn no_room(s: &[u8], at: usize) -> Got
 fn put_row(buffer: &mut [usize], i: usize, node: usize, branch: usize, rank: usize)
     requires { ⌜ 1536 ≤ length (now buffer) ⌝ }
     requires { ⌜ i < 512 ⌝ }
-    ensures { λ _. ⌜ rowsOf (i + 1) (now (buffer .exit)) ≡ rowsOf i (now (buffer .entry)) ++ (rowEntry node branch rank ∷ []) ⌝ }
+    ensures { λ _. ⌜ rowsOf (i + 1) (now (buffer .exit)) ≡ rowsOf i (now (buffer .entry)) ++ (row node branch rank ∷ []) ⌝ }
     ensures { λ _. ⌜ pastRows (i + 1) (now (buffer .exit)) ≡ pastRows (i + 1) (now (buffer .entry)) ⌝ }
 {
     let j = 3 * i;

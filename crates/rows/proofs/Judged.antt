@@ -18,9 +18,9 @@ use Rattle.tables.specs.SheetOf.{branchEntryAt, defEntryAt, branchNumbers, bran
 use Rattle.tables.proofs.SheetOf.{root-is, branches-are, count-of, branch-of, branch-small, next-renewal}
 use Rattle.reader.specs.Promises.{Promises}
 use Rattle.reader.proofs.Formed.{parts-are-nodes}
-use Rattle.requests.specs.Rows.{rowIn}
+use Rattle.requests.specs.Rows.{rowIn, rowsOf}
 use Rattle.sheets.specs.Ready.{Ready}
-use Rattle.rows.specs.Given.{rowOf, rowsIn, RowsFit, Known, hasBy, nextBy, rankSum, faultBy, twiceAt, answerOf}
+use Rattle.rows.specs.Given.{RowsFit, Known, hasBy, nextBy, rankSum, faultBy, twiceAt, answerOf}
 use Rattle.rows.specs.declared.Checked.the-variants.{Liquid, Refused}
 use Rattle.rows.proofs.Ranks.{drop-one, rows-from, rows-end, row-branch, known-has}
 
@@ -131,29 +131,29 @@ module _ (K : ℕ) (E : Entries) (p : ℕ) (ok : Promises K E) (R : List Row) (A
       ∙ ap sum (map-cong (rankOf R) (λ m. getD A m 0) (partNumbers E e) (λ m h. sym (kn .rank m))) in
       ap₂ (λ x y. ask x 11 y) q₁ (ap₂ (λ x y. ask x 12 (ask (leb (suc y) (r .rank)) 13 0)) q₂ q₃)
 
-pub row-fault : (t u : List ℕ) (n : ℕ) → Ready t → RowsFit t u n → (p : ℕ) (A : List ℕ) → Known (rowsIn n u) A → (i : ℕ) → i < n
-    → rowFault (sheetIn t) p (rowsIn n u) (rowOf (rowIn u i)) ≡ faultBy (people t) (held t) p A (rowOf (rowIn u i))
+pub row-fault : (t u : List ℕ) (n : ℕ) → Ready t → RowsFit t u n → (p : ℕ) (A : List ℕ) → Known (rowsOf n u) A → (i : ℕ) → i < n
+    → rowFault (sheetIn t) p (rowsOf n u) (rowIn u i) ≡ faultBy (people t) (held t) p A (rowIn u i)
 row-fault t u n ok fit p A kn i h =
-    fault-is (people t) (held t) p (ok .promises) (rowsIn n u) A kn (rowOf (rowIn u i)) (fit .each i h .has-node) (row-branch t u n ok fit i h)
+    fault-is (people t) (held t) p (ok .promises) (rowsOf n u) A kn (rowIn u i) (fit .each i h .has-node) (row-branch t u n ok fit i h)
 
 -- ---- row by row
 
-module _ (s : Sheet) (p : ℕ) (u : List ℕ) (i n : ℕ) (f : ℕ) (h : i < n) (e : rowFault s p (rowsIn n u) (rowOf (rowIn u i)) ≡ f) where
-  more : faulty s p (rowsIn n u) (i + 1) (drop i (rowsIn n u)) ≡ orElse (record { number = f; place = i + 1 }) (faulty s p (rowsIn n u) (i + 1 + 1) (drop (i + 1) (rowsIn n u)))
+module _ (s : Sheet) (p : ℕ) (u : List ℕ) (i n : ℕ) (f : ℕ) (h : i < n) (e : rowFault s p (rowsOf n u) (rowIn u i) ≡ f) where
+  more : faulty s p (rowsOf n u) (i + 1) (drop i (rowsOf n u)) ≡ orElse (record { number = f; place = i + 1 }) (faulty s p (rowsOf n u) (i + 1 + 1) (drop (i + 1) (rowsOf n u)))
   unfolding faulty
   more =
-      ap (faulty s p (rowsIn n u) (i + 1)) (rows-from u n i h)
-      ∙ ap₂ (λ f k. orElse (record { number = f; place = i + 1 }) (faulty s p (rowsIn n u) k (drop (i + 1) (rowsIn n u)))) e (let z : suc (i + 1) ≡ i + 1 + 1 = omega arith in z)
+      ap (faulty s p (rowsOf n u) (i + 1)) (rows-from u n i h)
+      ∙ ap₂ (λ f k. orElse (record { number = f; place = i + 1 }) (faulty s p (rowsOf n u) k (drop (i + 1) (rowsOf n u)))) e (let z : suc (i + 1) ≡ i + 1 + 1 = omega arith in z)
 
-  pub faults-hit : (f ≡ 0 → ⊥) → record { number = f; place = i + 1 } ≡ faulty s p (rowsIn n u) (i + 1) (drop i (rowsIn n u))
+  pub faults-hit : (f ≡ 0 → ⊥) → record { number = f; place = i + 1 } ≡ faulty s p (rowsOf n u) (i + 1) (drop i (rowsOf n u))
   faults-hit g = sym (more ∙ rw (ne-eqb f 0 g))
 
-  pub faults-miss : f ≡ 0 → faulty s p (rowsIn n u) (i + 1) (drop i (rowsIn n u)) ≡ faulty s p (rowsIn n u) (i + 1 + 1) (drop (i + 1) (rowsIn n u))
+  pub faults-miss : f ≡ 0 → faulty s p (rowsOf n u) (i + 1) (drop i (rowsOf n u)) ≡ faulty s p (rowsOf n u) (i + 1 + 1) (drop (i + 1) (rowsOf n u))
   faults-miss g = more ∙ rw g
 
-pub faults-end : (s : Sheet) (p : ℕ) (u : List ℕ) (i n : ℕ) → n ≤ i → faulty s p (rowsIn n u) (i + 1) (drop i (rowsIn n u)) ≡ record { number = 0; place = 0 }
+pub faults-end : (s : Sheet) (p : ℕ) (u : List ℕ) (i n : ℕ) → n ≤ i → faulty s p (rowsOf n u) (i + 1) (drop i (rowsOf n u)) ≡ record { number = 0; place = 0 }
 unfolding faulty
-faults-end s p u i n h = ap (faulty s p (rowsIn n u) (i + 1)) (rows-end u n i h)
+faults-end s p u i n h = ap (faulty s p (rowsOf n u) (i + 1)) (rows-end u n i h)
 
 -- ---- the whole check
 

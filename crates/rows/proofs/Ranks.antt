@@ -3,8 +3,8 @@ use mathlib.Core.Path.{_≡_, refl, sym, ap, ap₂, _∙_}
 use Prim.Native.Nat.{ℕ, zero, suc, _+_, _≤_, _<_}
 use native.Mathlib.Omega.{arith}
 use mathlib.Core.Bool.{Bool, true, false, not, cond}
-use mathlib.Core.List.{List, [], _∷_, _++_, map-append}
-use lib.ListN.{length, getD, set, drop, replicate, length-map, length-set, length-replicate, List·getD-map, drop-of-length-le}
+use mathlib.Core.List.{List, [], _∷_, _++_}
+use lib.ListN.{length, getD, set, drop, replicate, length-set, length-replicate, drop-of-length-le}
 use lib.Seq.{drop-cons}
 use lib.Dec.{eqb}
 use borrow.Author.Tests.{eq-eqb, ne-eqb, eqb-true, eqb-false}
@@ -16,10 +16,10 @@ use Rattle.tables.specs.Entries.{firstOf, held}
 use Rattle.tables.specs.SheetOf.{branchCount}
 use Rattle.tables.proofs.Laws.{firstOf-getD}
 use Rattle.tables.proofs.Held.{node-held}
-use Rattle.requests.specs.Rows.{rowIn, rowsOf, rowEntry, mostRank}
-use Rattle.requests.proofs.Laws.{rows-length}
+use Rattle.requests.specs.Rows.{rowIn, rowsOf, row, mostRank}
+use Rattle.requests.proofs.Laws.{rows-none, rows-next, rows-length}
 use Rattle.sheets.specs.Ready.{Ready}
-use Rattle.rows.specs.Given.{rowOf, rowsIn, RowsFit, RowsSmall, Known, hasBy, twiceAt}
+use Rattle.rows.specs.Given.{RowsFit, RowsSmall, Known, hasBy, twiceAt}
 
 -- ---- a list from an index on
 
@@ -27,28 +27,16 @@ pub drop-one : {A : Type 0} (xs : List A) (i : ℕ) (d : A) → i < length xs �
 drop-one xs i d h = drop-cons xs i d h ∙ ap (λ k. getD xs i d ∷ drop k xs) (let z : suc i ≡ i + 1 = omega arith in z)
 
 module _ (u : List ℕ) where
-  pub rows-count : (n : ℕ) → length (rowsIn n u) ≡ n
-  unfolding rowsIn
-  rows-count n = length-map (rowsOf n u) rowOf ∙ rows-length n u
+  row-at : (n i : ℕ) → i < n → getD (rowsOf n u) i (row 0 0 0) ≡ rowIn u i
+  unfolding rowsOf
+  row-at n i h = firstOf-getD (rowIn u) n i (row 0 0 0) h
 
-  pub rows-none : rowsIn 0 u ≡ []
-  unfolding rowsIn rowsOf firstOf
-  rows-none = refl
-
-  pub rows-next : (i : ℕ) → rowsIn (i + 1) u ≡ rowsIn i u ++ (rowOf (rowIn u i) ∷ [])
-  unfolding rowsIn rowsOf firstOf
-  rows-next i = ap (λ k. rowsIn k u) (let z : i + 1 ≡ suc i = omega arith in z) ∙ map-append rowOf (firstOf (rowIn u) i) (rowIn u i ∷ [])
-
-  row-at : (n i : ℕ) → i < n → getD (rowsIn n u) i (rowOf (rowEntry 0 0 0)) ≡ rowOf (rowIn u i)
-  unfolding rowsIn rowsOf
-  row-at n i h = List·getD-map rowOf (rowsOf n u) i (rowEntry 0 0 0) ∙ ap rowOf (firstOf-getD (rowIn u) n i (rowEntry 0 0 0) h)
-
-  pub rows-from : (n i : ℕ) → i < n → drop i (rowsIn n u) ≡ rowOf (rowIn u i) ∷ drop (i + 1) (rowsIn n u)
+  pub rows-from : (n i : ℕ) → i < n → drop i (rowsOf n u) ≡ rowIn u i ∷ drop (i + 1) (rowsOf n u)
   rows-from n i h =
-      drop-one (rowsIn n u) i (rowOf (rowEntry 0 0 0)) (omega (arith, rows-count n)) ∙ ap (λ r. r ∷ drop (i + 1) (rowsIn n u)) (row-at n i h)
+      drop-one (rowsOf n u) i (row 0 0 0) (omega (arith, rows-length n u)) ∙ ap (λ r. r ∷ drop (i + 1) (rowsOf n u)) (row-at n i h)
 
-  pub rows-end : (n i : ℕ) → n ≤ i → drop i (rowsIn n u) ≡ []
-  rows-end n i h = drop-of-length-le (rowsIn n u) {i = i} (omega (arith, rows-count n))
+  pub rows-end : (n i : ℕ) → n ≤ i → drop i (rowsOf n u) ≡ []
+  rows-end n i h = drop-of-length-le (rowsOf n u) {i = i} (omega (arith, rows-length n u))
 
 -- ---- what is promised of rows
 
@@ -111,50 +99,50 @@ repeated-same k S S′ [] e = refl
 repeated-same k S S′ (x ∷ xs) e =
     ap₂ (λ b f. cond b (record { number = 10; place = k }) f) (e (x .node)) (repeated-same (suc k) (x ∷ S) (x ∷ S′) xs (λ m. ap (λ b. eqb (x .node) m or b) (e m)))
 
-module _ (u A : List ℕ) (i n : ℕ) (ok : RowsSmall u n) (kn : Known (rowsIn i u) A) (h : i < n) where
-  turn : repeated (i + 1) (rowsIn i u) (drop i (rowsIn n u))
-      ≡ cond (hasBy A (rowIn u i .node)) (record { number = 10; place = i + 1 }) (repeated (i + 1 + 1) (rowOf (rowIn u i) ∷ rowsIn i u) (drop (i + 1) (rowsIn n u)))
+module _ (u A : List ℕ) (i n : ℕ) (ok : RowsSmall u n) (kn : Known (rowsOf i u) A) (h : i < n) where
+  turn : repeated (i + 1) (rowsOf i u) (drop i (rowsOf n u))
+      ≡ cond (hasBy A (rowIn u i .node)) (record { number = 10; place = i + 1 }) (repeated (i + 1 + 1) (rowIn u i ∷ rowsOf i u) (drop (i + 1) (rowsOf n u)))
   unfolding repeated
   turn =
       let v : suc (i + 1) ≡ i + 1 + 1 = omega arith in
-      ap (repeated (i + 1) (rowsIn i u)) (rows-from u n i h)
-      ∙ ap₂ (λ b k. cond b (record { number = 10; place = i + 1 }) (repeated k (rowOf (rowIn u i) ∷ rowsIn i u) (drop (i + 1) (rowsIn n u)))) (known-has (rowsIn i u) A kn (rowIn u i .node)) v
+      ap (repeated (i + 1) (rowsOf i u)) (rows-from u n i h)
+      ∙ ap₂ (λ b k. cond b (record { number = 10; place = i + 1 }) (repeated k (rowIn u i ∷ rowsOf i u) (drop (i + 1) (rowsOf n u)))) (known-has (rowsOf i u) A kn (rowIn u i .node)) v
 
-  pub twice-hit : (getD A (rowIn u i .node) 0 ≡ 0 → ⊥) → repeated (i + 1) (rowsIn i u) (drop i (rowsIn n u)) ≡ twiceAt (i + 1)
+  pub twice-hit : (getD A (rowIn u i .node) 0 ≡ 0 → ⊥) → repeated (i + 1) (rowsOf i u) (drop i (rowsOf n u)) ≡ twiceAt (i + 1)
   unfolding twiceAt hasBy
   twice-hit f = turn ∙ rw (ne-eqb (getD A (rowIn u i .node) 0) 0 f, ne-eqb (i + 1) 0 (λ e. omega arith))
 
   module _ (e : getD A (rowIn u i .node) 0 ≡ 0) where
-    fresh : has (rowsIn i u) (rowIn u i .node) ≡ false
+    fresh : has (rowsOf i u) (rowIn u i .node) ≡ false
     unfolding hasBy
-    fresh = known-has (rowsIn i u) A kn (rowIn u i .node) ∙ rw e
+    fresh = known-has (rowsOf i u) A kn (rowIn u i .node) ∙ rw e
 
-    pub known-next : Known (rowsIn (i + 1) u) (set A (rowIn u i .node) (rowIn u i .rank))
+    pub known-next : Known (rowsOf (i + 1) u) (set A (rowIn u i .node) (rowIn u i .rank))
     known-next =
         let k = rowIn u i .node in
         let r = rowIn u i .rank in
         let hk : k < length A = omega (arith, kn .long, ok .node i h) in
-        let R = rowsIn i u ++ (rowOf (rowIn u i) ∷ []) in
-        let rs : (m : ℕ) → rankOf R m ≡ cond (eqb k m) r (rankOf (rowsIn i u) m) = λ m. rank-next (rowsIn i u) (rowOf (rowIn u i)) m fresh in
+        let R = rowsOf i u ++ (rowIn u i ∷ []) in
+        let rs : (m : ℕ) → rankOf R m ≡ cond (eqb k m) r (rankOf (rowsOf i u) m) = λ m. rank-next (rowsOf i u) (rowIn u i) m fresh in
         rw (rows-next u i) (record {
           long = length-set A k r ∙ kn .long;
           rank = λ m. at-store (λ x. x ≡ rankOf R m) A k m r 0 hk
-              (λ ne. kn .rank m ∙ sym (rs m ∙ ap (λ b. cond b r (rankOf (rowsIn i u) m)) (ne-eqb k m (λ z. ne (sym z)))))
-              (λ z. sym (rs m ∙ ap (λ b. cond b r (rankOf (rowsIn i u) m)) (eq-eqb k m (sym z))));
+              (λ ne. kn .rank m ∙ sym (rs m ∙ ap (λ b. cond b r (rankOf (rowsOf i u) m)) (ne-eqb k m (λ z. ne (sym z)))))
+              (λ z. sym (rs m ∙ ap (λ b. cond b r (rankOf (rowsOf i u) m)) (eq-eqb k m (sym z))));
           some = all-append (kn .some) (cons (ok .some i h) nil);
           most = λ m. at-store (λ x. x ≤ mostRank) A k m r 0 hk (λ ne. kn .most m) (λ z. ok .most i h);
         })
 
-    pub twice-miss : repeated (i + 1) (rowsIn i u) (drop i (rowsIn n u)) ≡ repeated (i + 1 + 1) (rowsIn (i + 1) u) (drop (i + 1) (rowsIn n u))
+    pub twice-miss : repeated (i + 1) (rowsOf i u) (drop i (rowsOf n u)) ≡ repeated (i + 1 + 1) (rowsOf (i + 1) u) (drop (i + 1) (rowsOf n u))
     unfolding hasBy
     twice-miss =
-        let R = rowsIn i u ++ (rowOf (rowIn u i) ∷ []) in
-        turn ∙ rw e (repeated-same (i + 1 + 1) (rowOf (rowIn u i) ∷ rowsIn i u) (rowsIn (i + 1) u) (drop (i + 1) (rowsIn n u))
-        (λ m. rw (rows-next u i) (has-rank (rowOf (rowIn u i) ∷ rowsIn i u) (cons (ok .some i h) (kn .some)) m ∙ sym (has-rank R (all-append (kn .some) (cons (ok .some i h) nil)) m ∙ ap (λ k. not (eqb k 0)) (rank-next (rowsIn i u) (rowOf (rowIn u i)) m fresh)))))
+        let R = rowsOf i u ++ (rowIn u i ∷ []) in
+        turn ∙ rw e (repeated-same (i + 1 + 1) (rowIn u i ∷ rowsOf i u) (rowsOf (i + 1) u) (drop (i + 1) (rowsOf n u))
+        (λ m. rw (rows-next u i) (has-rank (rowIn u i ∷ rowsOf i u) (cons (ok .some i h) (kn .some)) m ∙ sym (has-rank R (all-append (kn .some) (cons (ok .some i h) nil)) m ∙ ap (λ k. not (eqb k 0)) (rank-next (rowsOf i u) (rowIn u i) m fresh)))))
 
-pub twice-end : (u : List ℕ) (i n : ℕ) → n ≤ i → repeated (i + 1) (rowsIn i u) (drop i (rowsIn n u)) ≡ twiceAt 0
+pub twice-end : (u : List ℕ) (i n : ℕ) → n ≤ i → repeated (i + 1) (rowsOf i u) (drop i (rowsOf n u)) ≡ twiceAt 0
 unfolding repeated twiceAt
-twice-end u i n h = ap (repeated (i + 1) (rowsIn i u)) (rows-end u n i h)
+twice-end u i n h = ap (repeated (i + 1) (rowsOf i u)) (rows-end u n i h)
 
-pub twice-start : (u : List ℕ) (n : ℕ) → repeated (0 + 1) (rowsIn 0 u) (drop 0 (rowsIn n u)) ≡ repeated 1 [] (rowsIn n u)
-twice-start u n = ap (λ R. repeated 1 R (rowsIn n u)) (rows-none u)
+pub twice-start : (u : List ℕ) (n : ℕ) → repeated (0 + 1) (rowsOf 0 u) (drop 0 (rowsOf n u)) ≡ repeated 1 [] (rowsOf n u)
+twice-start u n = ap (λ R. repeated 1 R (rowsOf n u)) (rows-none u)

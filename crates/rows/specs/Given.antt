@@ -11,23 +11,11 @@ use Rattle.bitml.specs.Rows as bitml
 use Rattle.bitml.specs.Rows.{Row, rankOf}
 use Rattle.tables.specs.Entries.{Entries, held}
 use Rattle.tables.specs.SheetOf.{sheetOf, branchOf, branchNumber, branchNumbers, partNumbers}
-use Rattle.requests.specs.Rows.{RowEntry, RowFits, countIn, rowIn, rowsOf, mostRank, mostRows}
+use Rattle.requests.specs.Rows.{RowFits, countIn, rowIn, rowsOf, mostRank, mostRows}
 use Rattle.exits.specs.Made.{filled}
 use Rattle.rows.specs.declared.Fault.{Fault}
 use Rattle.rows.specs.declared.Checked.{Checked}
 use Rattle.rows.specs.declared.Checked.the-variants.{Liquid, Refused}
-
--- "`row`,node,branch,rank"
-abbrev pub row : ℕ → ℕ → ℕ → Row
-row n b k = record { node = n; branch = b; rank = k }
-
--- as it was read
-abbrev pub rowOf : RowEntry → Row
-rowOf r = row (r .node) (r .branch) (r .rank)
-
--- The first n rows of a buffer
-unfoldable pub rowsIn : ℕ → List ℕ → List Row
-rowsIn n u = map rowOf (rowsOf n u)
 
 -- "up to 512 lines `row`,node,branch,rank (1 to 65,535)": what the reader promises of n rows
 pub record RowsFit (t u : List ℕ) (n : ℕ) : Type 0 where

@@ -20,9 +20,9 @@ ghost use Rattle.bitml.specs.Rows.{repeated, faulty};
 ghost use Rattle.bitml.specs.Rows as bitml;
 ghost use Rattle.tables.specs.Entries.{held, people};
 ghost use Rattle.tables.specs.SheetOf.{branchNumbers, branchCount, partNumbers, sheetIn};
-ghost use Rattle.requests.specs.Rows.{mostRank, mostRows};
+ghost use Rattle.requests.specs.Rows.{mostRank, mostRows, row, rowsOf};
 ghost use Rattle.sheets.specs.Ready.{Ready, Indexed};
-ghost use Rattle.rows.specs.Given.{row, rowsIn, RowsFit, RowsSmall, Known, hasBy, nextBy, rankSum, faultBy, asFault, twiceAt, answerOf, keptOf, bufferOf};
+ghost use Rattle.rows.specs.Given.{RowsFit, RowsSmall, Known, hasBy, nextBy, rankSum, faultBy, asFault, twiceAt, answerOf, keptOf, bufferOf};
 
 // The numbers of the refusals: the node has a row already, a needed row is missing, the branch is not own, the rank is too low.
 const REPEATED: usize = 10;
@@ -50,8 +50,8 @@ pub enum Checked {
 fn index(rows: &[usize], n: usize, ranks: &mut [usize; Sheet::NODES]) -> usize
     requires { ⌜ RowsSmall (now rows) n ⌝ }
     requires { ⌜ Known [] (now ranks) ⌝ }
-    ensures { λ r. ⌜ repeated 1 [] (rowsIn n (now (rows .entry))) ≡ twiceAt r ⌝ }
-    ensures { λ r. ⌜ (r ≡ 0 → Known (rowsIn n (now (rows .entry))) (now (ranks .exit))) ⌝ }
+    ensures { λ r. ⌜ repeated 1 [] (rowsOf n (now (rows .entry))) ≡ twiceAt r ⌝ }
+    ensures { λ r. ⌜ (r ≡ 0 → Known (rowsOf n (now (rows .entry))) (now (ranks .exit))) ⌝ }
 {
     let mut i = 0;
     while i < n {
@@ -180,9 +180,9 @@ fn faults(
     requires { ⌜ Ready (now t) ⌝ }
     requires { ⌜ mask ≡ 2 ^ p ⌝ }
     requires { ⌜ RowsFit (now t) (now rows) n ⌝ }
-    requires { ⌜ Known (rowsIn n (now rows)) (now ranks) ⌝ }
+    requires { ⌜ Known (rowsOf n (now rows)) (now ranks) ⌝ }
     requires { ⌜ Indexed (held (now t)) (now x) ⌝ }
-    ensures { λ r. ⌜ asFault r ≡ faulty (sheetIn (now (t .entry))) p (rowsIn n (now (rows .entry))) 1 (rowsIn n (now (rows .entry))) ⌝ }
+    ensures { λ r. ⌜ asFault r ≡ faulty (sheetIn (now (t .entry))) p (rowsOf n (now (rows .entry))) 1 (rowsOf n (now (rows .entry))) ⌝ }
 {
     let mut i = 0;
     while i < n {
@@ -218,8 +218,8 @@ fn first_fault(
     requires { ⌜ RowsFit (now t) (now rows) n ⌝ }
     requires { ⌜ Known [] (now ranks) ⌝ }
     requires { ⌜ Indexed (held (now t)) (now x) ⌝ }
-    ensures { λ r. ⌜ asFault r ≡ bitml.check (sheetIn (now (t .entry))) p (rowsIn n (now (rows .entry))) ⌝ }
-    ensures { λ r. ⌜ (r .number ≡ 0 → Known (rowsIn n (now (rows .entry))) (now (ranks .exit))) ⌝ }
+    ensures { λ r. ⌜ asFault r ≡ bitml.check (sheetIn (now (t .entry))) p (rowsOf n (now (rows .entry))) ⌝ }
+    ensures { λ r. ⌜ (r .number ≡ 0 → Known (rowsOf n (now (rows .entry))) (now (ranks .exit))) ⌝ }
 {
     let mask = mask_of(p);
     let twice = index(rows, n, ranks);
@@ -245,7 +245,7 @@ pub fn check(t: &[usize], p: usize, rows: &[usize], n: usize, x: &[usize]) -> Ch
     requires { ⌜ p < people (now t) ⌝ }
     requires { ⌜ RowsFit (now t) (now rows) n ⌝ }
     requires { ⌜ Indexed (held (now t)) (now x) ⌝ }
-    ensures { λ r. ⌜ r ≡ answerOf (rowsIn n (now (rows .entry))) (bitml.check (sheetIn (now (t .entry))) p (rowsIn n (now (rows .entry)))) ⌝ }
+    ensures { λ r. ⌜ r ≡ answerOf (rowsOf n (now (rows .entry))) (bitml.check (sheetIn (now (t .entry))) p (rowsOf n (now (rows .entry)))) ⌝ }
 {
     let mut ranks = [0usize; Sheet::NODES];
     let f = first_fault(t, p, rows, n, &mut ranks, x);
@@ -272,8 +272,8 @@ pub fn check_rows(t: &[usize], p: usize, rows: &mut [usize], n: usize, x: &[usiz
     requires { ⌜ p < people (now t) ⌝ }
     requires { ⌜ RowsFit (now t) (now rows) n ⌝ }
     requires { ⌜ Indexed (held (now t)) (now x) ⌝ }
-    ensures { λ r. ⌜ r ≡ answerOf (rowsIn n (now (rows .entry))) (bitml.check (sheetIn (now (t .entry))) p (rowsIn n (now (rows .entry)))) ⌝ }
-    ensures { λ r. ⌜ now (rows .exit) ≡ bufferOf (length (now (rows .entry))) (rowsIn n (now (rows .entry))) (bitml.check (sheetIn (now (t .entry))) p (rowsIn n (now (rows .entry)))) ⌝ }
+    ensures { λ r. ⌜ r ≡ answerOf (rowsOf n (now (rows .entry))) (bitml.check (sheetIn (now (t .entry))) p (rowsOf n (now (rows .entry)))) ⌝ }
+    ensures { λ r. ⌜ now (rows .exit) ≡ bufferOf (length (now (rows .entry))) (rowsOf n (now (rows .entry))) (bitml.check (sheetIn (now (t .entry))) p (rowsOf n (now (rows .entry)))) ⌝ }
 {
     let r = check(t, p, rows, n, x);
     let from = kept(r, n);

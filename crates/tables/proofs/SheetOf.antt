@@ -28,7 +28,7 @@ all-in [] i a h = absurd (omega arith)
 all-in (x ∷ xs) zero a h = all-head a
 all-in (x ∷ xs) (suc i) a h = all-in xs i (all-tail a) (omega arith)
 
-keep-le : (T : ℕ → Bool) (xs : List ℕ) → length (keep T xs) ≤ length xs
+pub keep-le : (T : ℕ → Bool) (xs : List ℕ) → length (keep T xs) ≤ length xs
 keep-le T [] = omega arith
 keep-le T (x ∷ xs) = go (T x) (keep-le T xs)
   where

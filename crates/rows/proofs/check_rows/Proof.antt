@@ -1,9 +1,10 @@
+use Rattle.requests.specs.Rows.{rowsOf}
 use borrow.Author.Needs.{needs}
 use native.Mathlib.Omega.{arith}
 use mathlib.Core.Path.{ap, _∙_}
 use Rattle.bitml.specs.Rows as bitml
 use Rattle.tables.specs.SheetOf.{sheetIn}
-use Rattle.rows.specs.Given.{rowsIn, keptOf}
+use Rattle.rows.specs.Given.{keptOf}
 use Rattle.rows.proofs.Buffer.{kept-within, buffer-is}
 use Rattle.rows.proofs.check_rows.Statement.{statement}
 use Rattle.rows.proofs.check_rows.Tie as tie
@@ -34,7 +35,7 @@ same-length c = search needs
 
 returns : tie.Need-returns
 returns c = let a = c .before .before .before .before .before .before .before .before .before .before .args in let e = c .before .before .before .before .before .check .ensures in
-    (e, buffer-is (a .rows .now) (a .n) (c .before .before .before .before .before .before .before .before .before .before .pre .1 .1 .0 .long) (bitml.check (sheetIn (a .t .now)) (a .p) (rowsIn (a .n) (a .rows .now))) _ _ (c .before .before .before .before .kept .ensures ∙ ap (λ r. keptOf r (a .n)) e) (c .before .before .clear .ensures))
+    (e, buffer-is (a .rows .now) (a .n) (c .before .before .before .before .before .before .before .before .before .before .pre .1 .1 .0 .long) (bitml.check (sheetIn (a .t .now)) (a .p) (rowsOf (a .n) (a .rows .now))) _ _ (c .before .before .before .before .kept .ensures ∙ ap (λ r. keptOf r (a .n)) e) (c .before .before .clear .ensures))
 
 pub check-rows-spec : {M : Type 1} → statement M
 check-rows-spec =

@@ -1,3 +1,4 @@
+use Rattle.requests.specs.Rows.{rowsOf}
 use borrow.Author.Needs.{needs}
 use native.Mathlib.Omega.{arith}
 use Prim.Native.Nat.{_≤_, _<_, _+_, _-_}
@@ -5,14 +6,13 @@ use mathlib.Core.Path.{_≡_, refl, sym, _∙_}
 use lib.ListN.{drop}
 use Rattle.bitml.specs.Rows.{faulty}
 use Rattle.tables.specs.SheetOf.{sheetIn}
-use Rattle.rows.specs.Given.{rowsIn}
 use Rattle.rows.proofs.Ranks.{row-branch}
 use Rattle.rows.proofs.Judged.{row-fault, faults-hit, faults-miss, faults-end}
 use Rattle.rows.proofs.faults.Statement.{statement}
 use Rattle.rows.proofs.faults.Tie as tie
 
 abbrev Inv-loop : tie.InvT-loop
-Inv-loop t p mask ranks rows n x i₀ i = (i ≤ n) × (faulty (sheetIn t) p (rowsIn n rows) (i + 1) (drop i (rowsIn n rows)) ≡ faulty (sheetIn t) p (rowsIn n rows) 1 (rowsIn n rows))
+Inv-loop t p mask ranks rows n x i₀ i = (i ≤ n) × (faulty (sheetIn t) p (rowsOf n rows) (i + 1) (drop i (rowsOf n rows)) ≡ faulty (sheetIn t) p (rowsOf n rows) 1 (rowsOf n rows))
 
 abbrev μ-loop : tie.MeasureT-loop
 μ-loop t p mask ranks rows n x i₀ i = n - i

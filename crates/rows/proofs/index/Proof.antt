@@ -1,3 +1,4 @@
+use Rattle.requests.specs.Rows.{rowsOf}
 use borrow.Author.Needs.{needs}
 use native.Mathlib.Omega.{arith}
 use Prim.Native.Nat.{_≤_, _<_, _+_, _-_}
@@ -5,13 +6,14 @@ use mathlib.Core.Path.{_≡_, sym, _∙_, subst}
 use mathlib.Core.List.{[]}
 use lib.ListN.{drop}
 use Rattle.bitml.specs.Rows.{repeated}
-use Rattle.rows.specs.Given.{rowsIn, Known}
-use Rattle.rows.proofs.Ranks.{rows-none, known-next, twice-hit, twice-miss, twice-end, twice-start}
+use Rattle.rows.specs.Given.{Known}
+use Rattle.requests.proofs.Laws.{rows-none}
+use Rattle.rows.proofs.Ranks.{known-next, twice-hit, twice-miss, twice-end, twice-start}
 use Rattle.rows.proofs.index.Statement.{statement}
 use Rattle.rows.proofs.index.Tie as tie
 
 abbrev Inv-loop : tie.InvT-loop
-Inv-loop rows n ranks₀ i₀ ranks i = (i ≤ n) × Known (rowsIn i rows) ranks × (repeated (i + 1) (rowsIn i rows) (drop i (rowsIn n rows)) ≡ repeated 1 [] (rowsIn n rows))
+Inv-loop rows n ranks₀ i₀ ranks i = (i ≤ n) × Known (rowsOf i rows) ranks × (repeated (i + 1) (rowsOf i rows) (drop i (rowsOf n rows)) ≡ repeated 1 [] (rowsOf n rows))
 
 abbrev μ-loop : tie.MeasureT-loop
 μ-loop rows n ranks₀ i₀ ranks i = n - i
@@ -74,7 +76,7 @@ loop-again c = let a = c .before .before .before .before .before .before .args i
 
 returns-2 : tie.Need-returns-2 Inv-loop μ-loop
 returns-2 c = let a = c .before .before .args in let l = c .before .loop in let e : l .i ≡ a .n = omega arith in
-    (sym (l .inv .2) ∙ twice-end (a .rows .now) (l .i) (a .n) (omega arith), λ z. subst (λ k. Known (rowsIn k (a .rows .now)) (l .ranks)) e (l .inv .1))
+    (sym (l .inv .2) ∙ twice-end (a .rows .now) (l .i) (a .n) (omega arith), λ z. subst (λ k. Known (rowsOf k (a .rows .now)) (l .ranks)) e (l .inv .1))
 
 pub index-spec : {M : Type 1} → statement M
 index-spec =

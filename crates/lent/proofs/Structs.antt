@@ -1,0 +1,95 @@
+-- Rows as structs: the places that are written so far, and what callers need to know of them. Assumes nothing.
+use mathlib.Core.Path.{_≡_, refl, sym, ap, _∙_}
+use Prim.Native.Nat.{ℕ, zero, suc, _+_, _-_, _*_, _≤_, _<_}
+use mathlib.Core.List.{List, [], _∷_, _++_, map, append-assoc, append-nil}
+use native.Mathlib.Numerals.{add-one}
+use native.Mathlib.Omega.{arith}
+use lib.ListN.{length, take, drop, getD, set, replicate, length-append, length-drop, length-map, length-replicate}
+use lib.Seq.{length-take-le, take-suc, take-length, drop-cons, drop-length, set-at, ext-getD}
+use Rattle.bitml.specs.Lists.{below}
+use Rattle.bitml.specs.Rows as bitml
+use Rattle.bitml.proofs.Lists.{getD-up, length-up}
+use Rattle.exits.specs.Made.{flat, filled}
+use Rattle.lent.specs.declared.Row.{Row}
+use Rattle.lent.specs.Structs.{noRow, structOf, structAt, structs}
+
+-- ---- place by place
+
+pub structs-length : (n : ℕ) (xs : List ℕ) → length (structs n xs) ≡ n
+unfolding structs
+structs-length n xs = length-map (below n) (structAt xs) ∙ length-up 0 n
+
+pub structs-at : (n : ℕ) (xs : List ℕ) (i : ℕ) → i < n → getD (structs n xs) i noRow ≡ structAt xs i
+unfolding structs
+structs-at n xs i h = getD-up (structAt xs) noRow 0 n i i (omega arith) h
+
+pub struct-is : (xs : List ℕ) (i a b c : ℕ) → a ≡ getD xs (3 * i + 0) 0 → b ≡ getD xs (3 * i + 1) 0 → c ≡ getD xs (3 * i + 2) 0 → record { node = a; branch = b; rank = c } ≡ structAt xs i
+unfolding structAt
+struct-is xs i a b c e f g =
+    let z : 3 * i + 0 ≡ 3 * i = omega arith in
+    rw (e, f, g, z)
+
+-- ---- the lent rows ys once i of them are written
+
+abbrev pub written : List ℕ → List Row → ℕ → List Row
+written xs ys i = take i (structs (length ys) xs) ++ drop i ys
+
+module _ (xs : List ℕ) (ys : List Row) (i : ℕ) where
+  pub written-length : i ≤ length ys → length (written xs ys i) ≡ length ys
+  written-length h =
+      let l = structs-length (length ys) xs in
+      omega (arith, length-append (take i (structs (length ys) xs)) (drop i ys), length-take-le i (structs (length ys) xs) (omega (arith, l)), length-drop i ys)
+
+  pub written-next : i < length ys → set (written xs ys i) i (structAt xs i) ≡ written xs ys (i + 1)
+  written-next h =
+      let zs = structs (length ys) xs in
+      let l = structs-length (length ys) xs in
+      ap (λ (t : List Row). set (take i zs ++ t) i (structAt xs i)) (drop-cons ys i noRow h)
+      ∙ set-at (take i zs) (getD ys i noRow) (drop (suc i) ys) (structAt xs i) i (length-take-le i zs (omega (arith, l)))
+      ∙ sym (rw (add-one, take-suc zs i noRow (omega (arith, l)), structs-at (length ys) xs i h) (simp append-assoc))
+
+  pub written-all : i ≡ length ys → written xs ys i ≡ structs (length ys) xs
+  written-all e =
+      let zs = structs (length ys) xs in
+      ap (written xs ys) e
+      ∙ ap (λ (t : List Row). take (length ys) zs ++ t) (drop-length ys)
+      ∙ append-nil (take (length ys) zs)
+      ∙ ap (λ k. take k zs) (sym (structs-length (length ys) xs))
+      ∙ take-length zs
+
+-- ---- rows, and zero past them
+
+getD-same : {A : Type 0} (n i : ℕ) (a : A) → getD (replicate n a) i a ≡ a
+getD-same zero i a = refl
+getD-same (suc n) zero a = refl
+getD-same (suc n) (suc i) a = getD-same n i a
+
+shift : (a b c : ℕ) (xs : List ℕ) (i : ℕ) → structAt (a ∷ b ∷ c ∷ xs) (suc i) ≡ structAt xs i
+unfolding structAt
+shift a b c xs i =
+    let e₀ : 3 * suc i ≡ suc (suc (suc (3 * i))) = omega arith in
+    let e₁ : 3 * suc i + 1 ≡ suc (suc (suc (3 * i + 1))) = omega arith in
+    let e₂ : 3 * suc i + 2 ≡ suc (suc (suc (3 * i + 2))) = omega arith in
+    rw (e₁, e₂, e₀)
+
+zeros-at : (k i : ℕ) → structAt (replicate k 0) i ≡ noRow
+unfolding structAt
+zeros-at k i = rw (getD-same {A = ℕ} k (3 * i) 0, getD-same {A = ℕ} k (3 * i + 1) 0, getD-same {A = ℕ} k (3 * i + 2) 0)
+
+flat-at : (R : List bitml.Row) (k m i : ℕ) → structAt (flat R ++ replicate k 0) i ≡ getD (map structOf R ++ replicate m noRow) i noRow
+unfolding flat structOf structAt
+flat-at [] k m i = zeros-at k i ∙ sym (getD-same m i noRow)
+flat-at (r ∷ R) k m zero = refl
+flat-at (r ∷ R) k m (suc i) = shift (r .node) (r .branch) (r .rank) (flat R ++ replicate k 0) i ∙ flat-at R k m i
+
+pub structs-filled : (n L : ℕ) (R : List bitml.Row) → length R ≤ n → structs n (filled L R) ≡ map structOf R ++ replicate (n - length R) noRow
+unfolding filled
+structs-filled n L R h =
+    let l = structs-length n (filled L R) in
+    ext-getD noRow (structs n (filled L R)) (map structOf R ++ replicate (n - length R) noRow)
+    (omega (arith, l, length-append (map structOf R) (replicate (n - length R) noRow), length-map R structOf, length-replicate (n - length R) noRow))
+    (λ i g. structs-at n (filled L R) i (omega (arith, l)) ∙ flat-at R (L - 3 * length R) (n - length R) i)
+
+-- "wholly zero"
+pub structs-cleared : (n L : ℕ) → structs n (filled L []) ≡ replicate n noRow
+structs-cleared n L = structs-filled n L [] (omega arith) ∙ ap (λ k. replicate k noRow) (let z : n - 0 ≡ n = omega arith in z)

@@ -1,0 +1,23 @@
+-- The rows that a caller lends, as structs. Assumes nothing.
+use Prim.Native.Nat.{ℕ, _+_, _*_}
+use mathlib.Core.List.{List, map}
+use lib.ListN.{getD}
+use Rattle.bitml.specs.Lists.{below}
+use Rattle.bitml.specs.Rows as bitml
+use Rattle.lent.specs.declared.Row.{Row}
+
+-- "zero past them"
+abbrev pub noRow : Row
+noRow = record { node = 0; branch = 0; rank = 0 }
+
+-- "`row`,node,branch,rank": a row as a struct
+unfoldable pub structOf : bitml.Row → Row
+structOf r = record { node = r .node; branch = r .branch; rank = r .rank }
+
+-- Row i of numbers that hold node, branch, rank for each row; 0 where they end
+unfoldable pub structAt : List ℕ → ℕ → Row
+structAt xs i = record { node = getD xs (3 * i) 0; branch = getD xs (3 * i + 1) 0; rank = getD xs (3 * i + 2) 0 }
+
+-- "The row buffer holds the rows .. and is zero past them": all of n places
+unfoldable pub structs : ℕ → List ℕ → List Row
+structs n xs = map (structAt xs) (below n)

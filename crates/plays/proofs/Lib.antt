@@ -1,0 +1,4 @@
+pub mod Reading
+pub mod Events
+pub mod Playing
+pub mod Examples

@@ -1,0 +1,113 @@
+-- Values read one after the other. Assumes nothing.
+use mathlib.Core.Path.{_≡_, refl, sym, ap, ap₂, _∙_, subst}
+use Prim.Native.Nat.{ℕ, zero, suc, _+_, _-_, _≤_, _<_}
+use native.Mathlib.Omega.{arith}
+use native.Mathlib.Numerals.{add-one}
+use native.Mathlib.Decide.{decLe}
+use mathlib.Core.Logic.{by-cases}
+use mathlib.Core.Option.{Option, none}
+use mathlib.Core.Option.{some as the}
+use mathlib.Core.List.{List, [], _∷_, _++_, map, append-nil, append-assoc}
+use lib.ListN.{length, getD, take, drop, set, length-set}
+use lib.Seq.{take-suc-set, drop-set-lt, drop-drop, getD-set-same, getD-set-other}
+use lib.Dec.{eqb}
+use Rattle.fields.proofs.Laws.{number-max}
+use Rattle.fields.proofs.Ranges.{after-cases, cond-cases}
+use Rattle.fields.specs.Field.{spelled, numberAt, wordAt}
+use Rattle.requests.specs.Part.{mostValue, valueAt}
+use Rattle.requests.specs.declared.Commitment.{Commitment}
+use Rattle.requests.specs.declared.Commitment.the-variants as commitment
+use Rattle.plays.specs.Values.{valueOf, behind, valuesOf, held, committed, Read, Valued}
+use Rattle.plays.specs.declared.Value.{Value}
+
+-- ---- one value
+
+module _ (s : List ℕ) (at : ℕ) where
+  pub value-most : (v e : ℕ) → valueAt s at ≡ commitment.Number v e → v ≤ mostValue
+  unfolding valueAt
+  value-most v e =
+      after-cases (λ c. c ≡ commitment.Number v e → v ≤ mostValue) commitment.Bad (wordAt s at) _ (λ m p h. let z : _≡_ {A = ℕ} 0 1 = cc in absurd (omega arith)) λ w f g.
+      cond-cases (λ c. c ≡ commitment.Number v e → v ≤ mostValue) (eqb w (spelled "x")) (commitment.Ill f) _ (λ b h. let z : _≡_ {A = ℕ} 0 1 = cc in absurd (omega arith)) λ b.
+      after-cases (λ c. c ≡ commitment.Number v e → v ≤ mostValue) commitment.Bad (numberAt s at mostValue) commitment.Number (λ m p h. let z : _≡_ {A = ℕ} 0 1 = cc in absurd (omega arith)) λ u q i h.
+      let j : u ≡ v = cc in omega (arith, number-max s at mostValue u q i)
+
+  module _ (c : Commitment) (read : c ≡ valueAt s at) where
+    pub read-number : (v e : ℕ) → c ≡ commitment.Number v e → Read s at (record { held = v + 1; next = e })
+    unfolding valueOf behind held
+    read-number v e h =
+        let k : valueAt s at ≡ commitment.Number v e = sym read ∙ h in
+        record { is = rw k (add-one v); next = rw k; most = omega (arith, value-most v e k) }
+
+    pub read-ill : (e : ℕ) → c ≡ commitment.Ill e → Read s at (record { held = 0; next = e })
+    unfolding valueOf behind held
+    read-ill e h = let k : valueAt s at ≡ commitment.Ill e = sym read ∙ h in record { is = rw k; next = rw k; most = omega arith }
+
+    pub read-bad : (n p : ℕ) → c ≡ commitment.Bad n p → Read s at (record { held = 0; next = p })
+    unfolding valueOf behind held
+    read-bad n p h = let k : valueAt s at ≡ commitment.Bad n p = sym read ∙ h in record { is = rw k; next = rw k; most = omega arith }
+
+-- ---- all
+
+-- i of n values are in the buffer, and the others start at `at`
+pub record Filling (s : List ℕ) (from n : ℕ) (u₀ u : List ℕ) (at i : ℕ) : Type 0 where
+  pub all : take i u ++ map held (valuesOf s at (n - i)) ≡ map held (valuesOf s from n)
+  pub rest : drop i u ≡ drop i u₀
+  pub most : (j : ℕ) → j < i → getD u j 0 ≤ suc mostValue
+  pub long : length u ≡ length u₀
+
+pub filling-none : (s : List ℕ) (from n : ℕ) (u : List ℕ) → Filling s from n u u from 0
+filling-none s from n u =
+    record {
+      all = ap (λ k. map held (valuesOf s from k)) (let e : n - 0 ≡ n = omega arith in e);
+      rest = refl;
+      most = λ j h. absurd (omega arith);
+      long = refl;
+    }
+
+pub filling-more : (s : List ℕ) (from n : ℕ) (u₀ u : List ℕ) (at i : ℕ) (r : Value) → Filling s from n u₀ u at i → i < n → n ≤ length u₀ → Read s at r
+    → Filling s from n u₀ (set u i (r .held)) (r .next) (i + 1)
+unfolding valuesOf
+filling-more s from n u₀ u at i r f h l d =
+    let k : n - i ≡ suc (n - (i + 1)) = omega arith in
+    let v = r .held in
+    let ms = map held (valuesOf s (r .next) (n - (i + 1))) in
+    let long : i < length u = omega (arith, f .long) in
+    record {
+      all =
+          ap (λ zs. zs ++ ms) (ap (λ m. take m (set u i v)) (add-one i) ∙ take-suc-set u i v long) ∙ append-assoc (take i u) (v ∷ []) ms
+          ∙ ap₂ (λ m q. take i u ++ (m ∷ map held (valuesOf s q (n - (i + 1))))) (d .is) (d .next)
+          ∙ ap (λ m. take i u ++ map held (valuesOf s at m)) (sym k) ∙ f .all;
+      rest =
+          drop-set-lt (i + 1) u i v (omega arith) ∙ sym (drop-drop 1 i u) ∙ ap (drop 1) (f .rest) ∙ drop-drop 1 i u₀;
+      most = λ j b. by-cases (decLe (suc j) i)
+          (λ e. rw (getD-set-other u i j v 0 (λ z. omega arith)) (f .most j e))
+          (λ e. let z : j ≡ i = omega arith in rw (z, getD-set-same u i v 0 long) (d .most));
+      long = length-set u i v ∙ f .long;
+    }
+
+pub filling-end : (s : List ℕ) (from n : ℕ) (u₀ u : List ℕ) (at i : ℕ) → Filling s from n u₀ u at i → i ≡ n → Valued s from n u₀ u
+unfolding valuesOf
+filling-end s from n u₀ u at i f e =
+    let none-left : n - i ≡ 0 = omega arith in
+    record {
+      first = ap (λ k. take k u) (sym e) ∙ sym (append-nil (take i u)) ∙ ap (λ m. take i u ++ map held (valuesOf s at m)) (sym none-left) ∙ f .all;
+      rest = rw (← e) (f .rest);
+      most = λ j h. f .most j (omega arith);
+    }
+
+-- ---- for a caller
+
+held-back : (xs : List (Option ℕ)) → map committed (map held xs) ≡ xs
+unfolding held committed
+held-back [] = refl
+held-back (none ∷ xs) = ap (λ ys. none ∷ ys) (held-back xs)
+held-back (the v ∷ xs) = ap (λ ys. the v ∷ ys) (held-back xs)
+
+-- The first n numbers mean the values that were read
+pub values-are : {s : List ℕ} {at n : ℕ} {u₀ u : List ℕ} → Valued s at n u₀ u → map committed (take n u) ≡ valuesOf s at n
+values-are {s} {at} {n} v = ap (map committed) (v .first) ∙ held-back (valuesOf s at n)
+
+pub values-count : (s : List ℕ) (at n : ℕ) → length (valuesOf s at n) ≡ n
+unfolding valuesOf
+values-count s at zero = refl
+values-count s at (suc n) = ap suc (values-count s (behind (valueAt s at)) n)

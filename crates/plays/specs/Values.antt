@@ -1,0 +1,50 @@
+-- The values of secrets in a request, as a list and as numbers in a buffer. Assumes nothing.
+use mathlib.Core.Path.{_≡_}
+use Prim.Native.Nat.{ℕ, zero, suc, _≤_, _<_}
+use mathlib.Core.Option.{Option, none}
+use mathlib.Core.Option.{some as the}
+use mathlib.Core.List.{List, [], _∷_, map}
+use lib.ListN.{getD, take, drop}
+use Rattle.requests.specs.Part.{valueAt, mostValue}
+use Rattle.plays.specs.declared.Value.{Value}
+use Rattle.requests.specs.declared.Commitment.{Commitment}
+use Rattle.requests.specs.declared.Commitment.the-variants as commitment
+
+-- "(0 to 1,000,000,000, or `x`, an ill-formed commitment)"
+unfoldable pub valueOf : Commitment → Option ℕ
+valueOf (commitment.Number v e) = the v
+valueOf (commitment.Ill e) = none
+valueOf (commitment.Bad n p) = none
+
+-- the position after its field
+unfoldable pub behind : Commitment → ℕ
+behind (commitment.Number v e) = e
+behind (commitment.Ill e) = e
+behind (commitment.Bad n p) = p
+
+-- "a value for each secret": n of them, from a position on. None is refused, for the whole request was read before
+unfoldable pub valuesOf : List ℕ → ℕ → ℕ → List (Option ℕ)
+valuesOf s at zero = []
+valuesOf s at (suc n) = valueOf (valueAt s at) ∷ valuesOf s (behind (valueAt s at)) n
+
+-- ---- in a buffer, a value is one number: 0 for `x`, else one more than it
+
+unfoldable pub held : Option ℕ → ℕ
+held none = 0
+held (the v) = suc v
+
+unfoldable pub committed : ℕ → Option ℕ
+committed zero = none
+committed (suc v) = the v
+
+-- One value, as it was read
+pub record Read (s : List ℕ) (at : ℕ) (r : Value) : Type 0 where
+  pub is : r .held ≡ held (valueOf (valueAt s at))
+  pub next : r .next ≡ behind (valueAt s at)
+  pub most : r .held ≤ suc mostValue
+
+-- A buffer that was u₀ has become u: first the n values from `at` on, then what it had
+pub record Valued (s : List ℕ) (at n : ℕ) (u₀ u : List ℕ) : Type 0 where
+  pub first : take n u ≡ map held (valuesOf s at n)
+  pub rest : drop n u ≡ drop n u₀
+  pub most : (i : ℕ) → i < n → getD u i 0 ≤ suc mostValue

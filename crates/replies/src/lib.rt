@@ -1,0 +1,59 @@
+// The value that answers a request, and the buffers after a refusal.
+use exits::clear as clear_numbers;
+use texts::clear;
+ghost use mathlib.Core.Path.{_≡_};
+ghost use lib.ListN.{length};
+ghost use Rattle.replies.specs.Answer.{refused, Gives};
+
+// Refused with number, line and field; or, where the number is 0, answered with so many bytes of text.
+#[repr(C)]
+pub struct Reply {
+    pub number: usize,
+    pub line: usize,
+    pub field: usize,
+    pub length: usize,
+}
+
+impl Reply {
+    // How long a text buffer must be: every reply fits.
+    pub const TEXT: usize = 180224;
+}
+
+// Answered, with so many bytes of text.
+pub fn answered(length: usize) -> Reply
+    ensures { λ r. ⌜ r ≡ record { number = 0; line = 0; field = 0; length = length } ⌝ }
+{
+    Reply {
+        number: 0,
+        line: 0,
+        field: 0,
+        length,
+    }
+}
+
+// Refused.
+pub fn declined(number: usize, line: usize, field: usize) -> Reply
+    ensures { λ r. ⌜ r ≡ record { number = number; line = line; field = field; length = 0 } ⌝ }
+{
+    Reply {
+        number,
+        line,
+        field,
+        length: 0,
+    }
+}
+
+// A refusal leaves nothing in the buffers.
+pub fn refuse(
+    number: usize,
+    line: usize,
+    field: usize,
+    rows: &mut [usize],
+    text: &mut [u8],
+) -> Reply
+    ensures { λ r. ⌜ Gives (refused number line field) (length (now (rows .entry))) (length (now (text .entry))) r (now (rows .exit)) (now (text .exit)) ⌝ }
+{
+    clear_numbers(rows);
+    clear(text);
+    declined(number, line, field)
+}

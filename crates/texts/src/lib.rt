@@ -1,0 +1,154 @@
+// What `judge` prints: each line written into a buffer of bytes, from a position on; the position behind it comes back.
+ghost use mathlib.Core.Path.{_≡_};
+ghost use mathlib.Core.List.{[], _∷_, map};
+ghost use Prim.Native.Nat.{_+_, _*_, _≤_, _<_};
+ghost use lib.ListN.{length, replicate};
+ghost use Rattle.bitml.specs.Rows.{Row};
+ghost use Rattle.bitml.specs.Answers.{rowLine, liquidLine, frozenLine, refusedLine, takenLine, endLine, orRefused};
+ghost use Rattle.requests.specs.Rows.{rowsOf};
+ghost use Rattle.texts.specs.Text.{decimal, fields, line, lineText, linesText};
+ghost use Rattle.texts.specs.Wrote.{Wrote};
+
+fn put_byte(out: &mut [u8], at: usize, b: u8) -> usize
+    requires { ⌜ at < length (now out) ⌝ }
+    ensures { λ r. ⌜ Wrote (now (out .entry)) at (b ∷ []) (now (out .exit)) r ⌝ }
+{
+    out[at] = b;
+    at + 1
+}
+
+fn put_word(out: &mut [u8], at: usize, word: &[u8]) -> usize
+    requires { ⌜ at + length (now word) ≤ length (now out) ⌝ }
+    ensures { λ r. ⌜ Wrote (now (out .entry)) at (now (word .entry)) (now (out .exit)) r ⌝ }
+{
+    let mut e = at;
+    let mut i = 0;
+    while i < word.len() {
+        e = put_byte(out, e, word[i]);
+        i += 1;
+    }
+    e
+}
+
+fn put_number(out: &mut [u8], at: usize, n: usize) -> usize
+    requires { ⌜ at + length (decimal n) ≤ length (now out) ⌝ }
+    ensures { λ r. ⌜ Wrote (now (out .entry)) at (decimal n) (now (out .exit)) r ⌝ }
+{
+    if n < 10 {
+        return put_byte(out, at, b'0' + n as u8);
+    }
+    let e = put_number(out, at, n / 10);
+    put_byte(out, e, b'0' + (n % 10) as u8)
+}
+
+// A comma before each number.
+fn put_fields(out: &mut [u8], at: usize, numbers: &[usize]) -> usize
+    requires { ⌜ at + 21 * length (now numbers) ≤ length (now out) ⌝ }
+    ensures { λ r. ⌜ Wrote (now (out .entry)) at (fields (now (numbers .entry))) (now (out .exit)) r ⌝ }
+    ensures { λ r. ⌜ r ≤ at + 21 * length (now (numbers .entry)) ⌝ }
+{
+    let mut e = at;
+    let mut i = 0;
+    while i < numbers.len() {
+        e = put_byte(out, e, b',');
+        e = put_number(out, e, numbers[i]);
+        i += 1;
+    }
+    e
+}
+
+fn put_line(out: &mut [u8], at: usize, word: &[u8], numbers: &[usize]) -> usize
+    requires { ⌜ at + length (now word) + 21 * length (now numbers) < length (now out) ⌝ }
+    ensures { λ r. ⌜ Wrote (now (out .entry)) at (line (now (word .entry)) (now (numbers .entry))) (now (out .exit)) r ⌝ }
+{
+    let e = put_word(out, at, word);
+    let f = put_fields(out, e, numbers);
+    put_byte(out, f, b'\n')
+}
+
+pub fn put_row(out: &mut [u8], at: usize, node: usize, branch: usize, rank: usize) -> usize
+    requires { ⌜ at + 80 ≤ length (now out) ⌝ }
+    ensures { λ r. ⌜ Wrote (now (out .entry)) at (lineText (rowLine (record { node = node; branch = branch; rank = rank }))) (now (out .exit)) r ⌝ }
+{
+    let numbers = [node, branch, rank];
+    put_line(out, at, b"row", &numbers)
+}
+
+pub fn put_liquid(out: &mut [u8], at: usize, p: usize, rows: usize, rank: usize) -> usize
+    requires { ⌜ at + 80 ≤ length (now out) ⌝ }
+    ensures { λ r. ⌜ Wrote (now (out .entry)) at (lineText (liquidLine p rows rank)) (now (out .exit)) r ⌝ }
+{
+    let numbers = [p, rows, rank];
+    put_line(out, at, b"liquid", &numbers)
+}
+
+pub fn put_frozen(out: &mut [u8], at: usize, p: usize, node: usize) -> usize
+    requires { ⌜ at + 80 ≤ length (now out) ⌝ }
+    ensures { λ r. ⌜ Wrote (now (out .entry)) at (lineText (frozenLine p node)) (now (out .exit)) r ⌝ }
+{
+    let numbers = [p, node];
+    put_line(out, at, b"frozen", &numbers)
+}
+
+pub fn put_refused(out: &mut [u8], at: usize, number: usize, line: usize, field: usize) -> usize
+    requires { ⌜ at + 80 ≤ length (now out) ⌝ }
+    ensures { λ r. ⌜ Wrote (now (out .entry)) at (lineText (refusedLine number line field)) (now (out .exit)) r ⌝ }
+{
+    let numbers = [number, line, field];
+    put_line(out, at, b"refused", &numbers)
+}
+
+pub fn put_taken(out: &mut [u8], at: usize) -> usize
+    requires { ⌜ at + 80 ≤ length (now out) ⌝ }
+    ensures { λ r. ⌜ Wrote (now (out .entry)) at (lineText takenLine) (now (out .exit)) r ⌝ }
+{
+    put_word(out, at, b"taken\n")
+}
+
+// The answer to an event: taken, or refused by a number other than 0.
+pub fn put_answer(out: &mut [u8], at: usize, number: usize, line: usize) -> usize
+    requires { ⌜ at + 80 ≤ length (now out) ⌝ }
+    ensures { λ r. ⌜ Wrote (now (out .entry)) at (lineText (orRefused line number takenLine)) (now (out .exit)) r ⌝ }
+{
+    if number == 0 {
+        return put_taken(out, at);
+    }
+    put_refused(out, at, number, line, 0)
+}
+
+// Time, how many contracts live, and what each participant was paid.
+pub fn put_end(out: &mut [u8], at: usize, time: usize, live: usize, paid: &[usize]) -> usize
+    requires { ⌜ (at + 400 ≤ length (now out)) × (length (now paid) ≤ 16) ⌝ }
+    ensures { λ r. ⌜ Wrote (now (out .entry)) at (lineText (endLine time live (now (paid .entry)))) (now (out .exit)) r ⌝ }
+{
+    let e = put_word(out, at, b"end");
+    let first = [time, live];
+    let f = put_fields(out, e, &first);
+    let g = put_fields(out, f, paid);
+    put_byte(out, g, b'\n')
+}
+
+// The first n rows of a buffer, three numbers each.
+pub fn put_rows(out: &mut [u8], at: usize, rows: &[usize], n: usize) -> usize
+    requires { ⌜ (at + 80 * n ≤ length (now out)) × (3 * n ≤ length (now rows)) ⌝ }
+    ensures { λ r. ⌜ Wrote (now (out .entry)) at (linesText (map rowLine (rowsOf n (now (rows .entry))))) (now (out .exit)) r ⌝ }
+{
+    let mut e = at;
+    let mut i = 0;
+    while i < n {
+        e = put_row(out, e, rows[3 * i], rows[3 * i + 1], rows[3 * i + 2]);
+        i += 1;
+    }
+    e
+}
+
+// The whole buffer becomes zero.
+pub fn clear(out: &mut [u8])
+    ensures { λ _. ⌜ now (out .exit) ≡ replicate (length (now (out .entry))) 0 ⌝ }
+{
+    let mut i = 0;
+    while i < out.len() {
+        out[i] = 0;
+        i += 1;
+    }
+}

@@ -767,8 +767,14 @@ impl Generator {
             };
         }
         if edge == Edge::Bytes {
-            let target = model::SHEET_BYTES + over;
-            return grower.long_sheet(target);
+            // Some have a field too many, which ends before the limit, at it or beyond.
+            let more = grower.random.chance(30);
+            let less = if more { grower.random.below(5) } else { 0 };
+            let mut draft = grower.long_sheet(model::SHEET_BYTES + over - less);
+            if let Some(line) = draft.lines.last_mut().filter(|_| more) {
+                line.push(word(grower.random.pick(&["", "x", "0"])));
+            }
+            return draft;
         }
         grower.put_word("bitml");
         grower.put_number(participants, Role::Count);
@@ -883,9 +889,12 @@ impl Generator {
 
     /// The whole next request.
     pub fn request(&mut self) -> Vec<u8> {
-        // A few requests are about the length of the whole.
-        if self.random.below(400) == 0 {
-            return self.longest();
+        // A few requests are about the length of the whole, a few are hardly requests.
+        match self.random.below(400) {
+            0 => return self.longest(),
+            1 => return self.soup(),
+            2 => return self.noise(),
+            _ => {}
         }
         let mut draft = if self.random.chance(8) {
             let edge = self.random.pick(&EDGES);
@@ -1316,11 +1325,49 @@ impl Generator {
         draft.bytes()
     }
 
+    // -- hardly requests ----------------------------------------------------------------------
+
+    /// Words and numbers in any order, after the first lines of a sheet or after nothing.
+    fn soup(&mut self) -> Vec<u8> {
+        let mut draft = self.sheet();
+        let kept = self.random.between(0, draft.lines.len());
+        draft.lines.truncate(kept);
+        let mut bytes = draft.bytes();
+        for _ in 0..self.random.between(0, 200) {
+            let text = match self.random.below(3) {
+                0 => self.random.pick(&WORDS).to_string(),
+                1 => self.random.pick(&TEXTS).to_string(),
+                _ => self.random.between(0, 20).to_string(),
+            };
+            bytes.extend_from_slice(text.as_bytes());
+            bytes.push(self.random.pick(b",,,,\n"));
+        }
+        bytes
+    }
+
+    /// Bytes in any order, perhaps none.
+    fn noise(&mut self) -> Vec<u8> {
+        let length = self.random.pick(&[0, 1, 2, 10, 1_000, 65_536, 65_537]);
+        let any = self.random.chance(50);
+        (0..length)
+            .map(|_| {
+                if any {
+                    self.random.below(256) as u8
+                } else {
+                    self.random.pick(BYTES)
+                }
+            })
+            .collect()
+    }
+
     // -- damage -------------------------------------------------------------------------------
 
-    /// Damages a request: in its fields, in its lines, in its bytes.
+    /// Damages a request: in its fields, in its lines, in its bytes, or everywhere.
     fn damage(&mut self, mut draft: Draft) -> Vec<u8> {
         let times = self.random.pick(&[1, 1, 1, 1, 2, 3]);
+        if self.random.chance(3) {
+            return self.damage_everywhere(draft.bytes());
+        }
         if self.random.chance(60) {
             for _ in 0..times {
                 self.damage_fields(&mut draft);
@@ -1363,7 +1410,7 @@ impl Generator {
             return;
         }
         let place = self.random.below(fields);
-        match self.random.below(12) {
+        match self.random.below(13) {
             // A number or a word put in its place.
             0..=2 => draft.lines[line][place].text = self.random.pick(&TEXTS).to_string(),
             3..=5 => {
@@ -1394,9 +1441,28 @@ impl Generator {
                 draft.lines[line].swap(place, other);
             }
             8 => {
-                draft.lines[line].remove(place);
+                // Another secret after some `v`, which its `r` may not list.
+                let mut secrets: Vec<&mut Field> = Vec::new();
+                for fields in &mut draft.lines {
+                    let mut after_v = false;
+                    for field in fields {
+                        if after_v {
+                            after_v = false;
+                            secrets.push(field);
+                        } else {
+                            after_v = field.text == "v";
+                        }
+                    }
+                }
+                if !secrets.is_empty() {
+                    let place = self.random.below(secrets.len());
+                    secrets[place].text = self.random.between(0, 8).to_string();
+                }
             }
             9 => {
+                draft.lines[line].remove(place);
+            }
+            10 => {
                 let text = self.random.pick(&TEXTS).to_string();
                 let at = self.random.pick(&[place, fields]);
                 draft.lines[line].insert(
@@ -1407,7 +1473,7 @@ impl Generator {
                     },
                 );
             }
-            10 => {
+            11 => {
                 let copy = self.random.below(lines);
                 let copy = draft.lines[copy].clone();
                 let at = self.random.pick(&[line, lines, lines]);
@@ -1453,6 +1519,29 @@ impl Generator {
             Role::Index => vec![0, 255, 256, 65_535, 65_536],
         };
         self.random.pick(&edges).to_string()
+    }
+
+    /// What another program might do to a whole text, or a field of many bytes.
+    fn damage_everywhere(&mut self, bytes: Vec<u8>) -> Vec<u8> {
+        let text = String::from_utf8_lossy(&bytes).to_string();
+        match self.random.below(8) {
+            0 => text.replace('\n', "\r\n").into_bytes(),
+            1 => format!("\u{feff}{text}").into_bytes(),
+            2 => text.to_uppercase().into_bytes(),
+            3 => text.replace(',', ", ").into_bytes(),
+            4 => text.replace(',', ";").into_bytes(),
+            5 => text.replace('\n', "").into_bytes(),
+            6 => bytes.repeat(2),
+            _ => {
+                // More of the same byte: a number of many digits, a word that goes on.
+                let place = self.random.below(bytes.len());
+                let more = self.random.pick(&[2, 7, 19, 20, 255, 256, 300, 20_000]);
+                let mut longer = bytes[..place].to_vec();
+                longer.extend(vec![bytes[place]; more]);
+                longer.extend_from_slice(&bytes[place..]);
+                longer
+            }
+        }
     }
 
     fn damage_bytes(&mut self, bytes: &mut Vec<u8>) {

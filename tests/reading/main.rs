@@ -5,6 +5,9 @@
 //! ./reading PROBE SEED COUNT
 //! ```
 
+#[allow(dead_code)]
+#[path = "../model/cases.rs"]
+mod cases;
 #[path = "../model/gen.rs"]
 mod generate;
 #[allow(dead_code)]
@@ -18,47 +21,6 @@ use std::process::{Command, ExitCode, Stdio};
 use generate::Generator;
 use model::LastPart;
 
-/// Requests by hand for each number from 2 to 9: those of the table of refusals and of the readings in docs/DECISIONS.md.
-const BY_HAND: &[(&str, &str)] = &[
-    ("", "refused,2,1,1"),
-    ("\n", "refused,3,1,1"),
-    ("bitml,2", "refused,2,1,3"),
-    ("bitml,1,", "refused,3,1,3"),
-    ("bitml,1,1", "refused,2,1,4"),
-    ("bitml,1,1,", "refused,9,1,4"),
-    ("bitml,02,1\n", "refused,3,1,2"),
-    ("bitml,17,1\n", "refused,4,1,2"),
-    ("bitml,16,33\n", "refused,4,1,3"),
-    ("bitml,1,1\r\n", "refused,3,1,3"),
-    ("\0bitml,1,1\n", "refused,3,1,1"),
-    ("bitml,1,1\nmake,0\n", "refused,3,2,1"),
-    ("bitml,1,1\ndef,1,0,c,0\ndef,1,0,c,0\n", "refused,3,3,1"),
-    ("bitml,1,1\ndef,1,0,c,0\nmake,0,0", "refused,9,3,3"),
-    ("bitml,1,1\ndef,1,0,c,0\nmake,0\nx", "refused,9,4,1"),
-    ("bitml,1,1\ndef,1,0,c,0\nmake,1\n", "refused,6,3,2"),
-    ("bitml,1,1\ndef,1,0,c,0\nmake,0\n", "make,0"),
-    ("bitml,1,1\ndef,1,0,c,0\nplay\n\n", "refused,3,4,1"),
-    ("bitml,1,1\ndef,1,0,c,0\ncheck,0\nmake,0\n", "refused,3,4,1"),
-    ("bitml,1,1\ndef,1,0,c,0\nplay\nrenew,0,0,\n", "refused,3,4,4"),
-    ("bitml,1,1\ndef,1,0,c,0\nplay\nrenew,0,0,1,2,3,4,5,6,7,8,9\n", "refused,9,4,12"),
-    ("bitml,1,1\ndef,1,0,c,0\nplay\nwait,0\n", "refused,4,4,2"),
-    ("bitml,1,1\ndef,1,0,c,0\nplay\nsign,1,0,0\n", "refused,6,4,2"),
-    ("bitml,1,1\ndef,1,0,c,0\nplay\nfire,65536,0\n", "refused,4,4,2"),
-    ("bitml,1,1\ndef,1,0,c,0\nplay,x\n", "refused,9,3,2"),
-    ("bitml,1,1\ndef,1,0,c,1,0,0,w,0\ncheck,0\nrow,0,0,1\n", "check,0,1"),
-    ("bitml,1,1\ndef,1,0,c,1,0,0,w,0\ncheck,0\nrow,0,1,1\n", "refused,6,4,3"),
-    ("bitml,1,1\ndef,1,0,c,1,0,0,w,0\ncheck,0\nrow,0,0,0\n", "refused,4,4,4"),
-    ("bitml,2,1\ndef,1,1,0,c,1,0,0,w,2\nmake,0\n", "refused,6,2,10"),
-    ("bitml,1,1\ndef,1,1,0,c,1,0,0,r,2,0,0,t,c,0\nmake,0\n", "refused,5,2,12"),
-    ("bitml,1,1\ndef,1,2,0,0,c,1,0,0,r,1,0,eq,v,1,k,1,c,0\nmake,0\n", "refused,6,2,15"),
-    ("bitml,1,1\ndef,1,0,c,1,0,0,s,1,0,c,0\nmake,0\n", "refused,8,2,10"),
-    ("bitml,1,1\ndef,1,0,c,1,2,0,w,0\nmake,0\n", "refused,6,2,6"),
-    ("bitml,1,1\ndef,2100000000000001,0,c,0\nmake,0\n", "refused,4,2,2"),
-    ("bitml,2,1\ndef,2100000000000000,1,0,c,0\nmake,0\n", "refused,7,2,3"),
-    ("bitml,1,1\ndef,9999999999999999999,0,c,0\nmake,0\n", "refused,4,2,2"),
-    ("bitml,1,1\ndef,10000000000000000000,0,c,0\nmake,0\n", "refused,3,2,2"),
-];
-
 /// What the model reads, as `probe` writes it; of `play` the word alone.
 fn read_by_model(request: &[u8]) -> String {
     match model::read(request) {
@@ -68,6 +30,17 @@ fn read_by_model(request: &[u8]) -> String {
             LastPart::Play { .. } => "play".to_string(),
         },
         Err(refusal) => format!("refused,{},{},{}", refusal.number, refusal.line, refusal.field),
+    }
+}
+
+/// What is due for a case by hand: its refusal if that is one of reading, else what the model reads.
+fn due_by_hand(case: &cases::Case) -> String {
+    let fields: Vec<&str> = case.due.trim_end().split(',').collect();
+    match fields.as_slice() {
+        ["refused", number, _, _] if number.parse().is_ok_and(|number: u32| number <= 9) => {
+            case.due.trim_end().to_string()
+        }
+        _ => read_by_model(case.request.as_bytes()),
     }
 }
 
@@ -99,7 +72,10 @@ fn main() -> ExitCode {
     let mut tries = 0;
     let mut failed = 0;
     let mut answers: BTreeMap<String, usize> = BTreeMap::new();
-    let by_hand = BY_HAND.iter().map(|(request, due)| (request.as_bytes().to_vec(), due.to_string()));
+    let by_hand = cases::by_hand().into_iter().map(|case| {
+        let due = due_by_hand(&case);
+        (case.request.into_bytes(), due)
+    });
     let generated = Generator::new(seed).take(count).map(|request| {
         let due = read_by_model(&request);
         (request, due)

@@ -16,3 +16,4 @@ pub mod Stars
 pub mod Formed
 pub mod Bound
 pub mod Counting
+pub mod Balance

@@ -24,6 +24,19 @@ pub and-i : (a b : Bool) → a ≡ true → b ≡ true → (a & b) ≡ true
 unfolding _&_
 and-i a b e f = rw (e, f)
 
+pub and-false : (a b : Bool) → a ≡ false → (a & b) ≡ false
+unfolding _&_
+and-false a b e = rw e
+
+pub and-true : (a b : Bool) → a ≡ true → (a & b) ≡ b
+unfolding _&_
+and-true a b e = rw e
+
+pub and-no : (a b : Bool) → b ≡ false → (a & b) ≡ false
+unfolding _&_
+and-no true b e = e
+and-no false b e = refl
+
 pub or-l : (a b : Bool) → a ≡ true → (a or b) ≡ true
 unfolding _or_
 or-l true b e = refl
@@ -87,6 +100,14 @@ pub ask-rest : (t : Bool) (k rest : ℕ) → ask t (suc k) rest ≡ 0 → rest �
 unfolding ask
 ask-rest true k rest e = e
 ask-rest false k rest e = absurd (suc-ne-zero k e)
+
+pub ask-no : (t : Bool) (k rest : ℕ) → t ≡ false → ask t k rest ≡ k
+unfolding ask
+ask-no t k rest e = rw e
+
+pub ask-yes : (t : Bool) (k rest : ℕ) → t ≡ true → ask t k rest ≡ rest
+unfolding ask
+ask-yes t k rest e = rw e
 
 module _ {A : Type 0} where
   pub all-head : {Q : A → Type 0} {x : A} {xs : List A} → All Q (x ∷ xs) → Q x

@@ -6,6 +6,7 @@ pub mod Rows
 pub mod Rule
 pub mod Ledger
 pub mod Limits
+pub mod Balance
 pub mod Promises
 pub mod Liquidity
 pub mod Demands

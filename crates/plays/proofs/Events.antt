@@ -6,7 +6,7 @@ use mathlib.Core.Bool.{Bool, true, false, cond}
 use mathlib.Core.List.{List, [], _∷_}
 use lib.ListN.{length}
 use lib.Dec.{ltb}
-use borrow.Author.Tests.{lt-ltb, le-ltb, ltb-true}
+use borrow.Author.Tests.{lt-ltb, le-ltb}
 use Rattle.fields.specs.Field.{after}
 use Rattle.fields.specs.declared.Got.{Got}
 use Rattle.fields.specs.declared.Got.the-variants.{Value, Bad}
@@ -41,12 +41,15 @@ events-none s people at h = up-over s people (length s - at) at h
 
 -- An event line x that starts at `at`, of lines that can all be read
 module _ (s : List ℕ) (people at : ℕ) (more : at < length s) (good : eventsAt s people at ≡ lines.Good) (x : Event) (read : x ≡ eventAt s people at) where
-  pub event-read : (n p : ℕ) → x ≡ line.Bad n p → ⊥
-  unfolding nextOf
-  event-read n p h =
-      let g : Bad n p ≡ nextOf (eventAt s people at) = rw (← read, h) in
+  pub next-read : (n p : ℕ) → nextOf x ≡ Bad n p → ⊥
+  next-read n p h =
+      let g : Bad n p ≡ nextOf (eventAt s people at) = sym (sym (ap nextOf read) ∙ h) in
       let b = events-bad s people at (Bad n p) more g n p refl in
       let z : _≡_ {A = ℕ} 0 1 = cc in omega arith
+
+  pub event-read : (n p : ℕ) → x ≡ line.Bad n p → ⊥
+  unfolding nextOf
+  event-read n p h = next-read n p (ap nextOf h)
 
   module _ (v e : ℕ) (next : nextOf x ≡ Value v e) where
     pub events-more : eventsOf s people at ≡ eventOf s x ∷ eventsOf s people e

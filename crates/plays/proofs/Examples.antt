@@ -2,7 +2,7 @@
 use mathlib.Core.Path.{_≡_, refl}
 use mathlib.Core.Option.{none}
 use mathlib.Core.Option.{some as the}
-use mathlib.Core.List.{List, [], _∷_}
+use mathlib.Core.List.{[], _∷_}
 use Rattle.bitml.specs.Ledger.{wait, sign, tell, fire, renew}
 use Rattle.fields.specs.Field.{fieldLen, textAt, endAt, allDigits, value, digitsOf, numberOf, numberAt, packed, packedOf, wordFrom, wordAt, firstAt, lineEndAt, after, belowAt, betweenAt}
 use Rattle.requests.specs.Part.{valueAt, pastOf, pastValueAt}

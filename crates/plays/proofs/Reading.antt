@@ -1,15 +1,13 @@
 -- Values read one after the other. Assumes nothing.
-use mathlib.Core.Path.{_≡_, refl, sym, ap, ap₂, _∙_, subst}
+use mathlib.Core.Path.{_≡_, refl, sym, ap, ap₂, _∙_}
 use Prim.Native.Nat.{ℕ, zero, suc, _+_, _-_, _≤_, _<_}
 use native.Mathlib.Omega.{arith}
 use native.Mathlib.Numerals.{add-one}
-use native.Mathlib.Decide.{decLe}
-use mathlib.Core.Logic.{by-cases}
 use mathlib.Core.Option.{Option, none}
 use mathlib.Core.Option.{some as the}
 use mathlib.Core.List.{List, [], _∷_, _++_, map, append-nil, append-assoc}
-use lib.ListN.{length, getD, take, drop, set, length-set}
-use lib.Seq.{take-suc-set, drop-set-lt, drop-drop, getD-set-same, getD-set-other}
+use lib.ListN.{length, getD, take, drop, set, length-set, length-map}
+use lib.Seq.{take-suc-set, drop-set-lt, drop-drop}
 use lib.Dec.{eqb}
 use Rattle.fields.proofs.Laws.{number-max}
 use Rattle.fields.proofs.Ranges.{after-cases, cond-cases}
@@ -17,7 +15,8 @@ use Rattle.fields.specs.Field.{spelled, numberAt, wordAt}
 use Rattle.requests.specs.Part.{mostValue, valueAt}
 use Rattle.requests.specs.declared.Commitment.{Commitment}
 use Rattle.requests.specs.declared.Commitment.the-variants as commitment
-use Rattle.plays.specs.Values.{valueOf, behind, valuesOf, held, committed, Read, Valued}
+use Rattle.duties.specs.Duties.{committed}
+use Rattle.plays.specs.Values.{valueOf, behind, valuesOf, held, Read, Valued}
 use Rattle.plays.specs.declared.Value.{Value}
 
 -- ---- one value
@@ -36,15 +35,15 @@ module _ (s : List ℕ) (at : ℕ) where
     unfolding valueOf behind held
     read-number v e h =
         let k : valueAt s at ≡ commitment.Number v e = sym read ∙ h in
-        record { is = rw k (add-one v); next = rw k; most = omega (arith, value-most v e k) }
+        record { is = rw k (add-one v); next = rw k }
 
     pub read-ill : (e : ℕ) → c ≡ commitment.Ill e → Read s at (record { held = 0; next = e })
     unfolding valueOf behind held
-    read-ill e h = let k : valueAt s at ≡ commitment.Ill e = sym read ∙ h in record { is = rw k; next = rw k; most = omega arith }
+    read-ill e h = let k : valueAt s at ≡ commitment.Ill e = sym read ∙ h in record { is = rw k; next = rw k }
 
     pub read-bad : (n p : ℕ) → c ≡ commitment.Bad n p → Read s at (record { held = 0; next = p })
     unfolding valueOf behind held
-    read-bad n p h = let k : valueAt s at ≡ commitment.Bad n p = sym read ∙ h in record { is = rw k; next = rw k; most = omega arith }
+    read-bad n p h = let k : valueAt s at ≡ commitment.Bad n p = sym read ∙ h in record { is = rw k; next = rw k }
 
 -- ---- all
 
@@ -52,7 +51,6 @@ module _ (s : List ℕ) (at : ℕ) where
 pub record Filling (s : List ℕ) (from n : ℕ) (u₀ u : List ℕ) (at i : ℕ) : Type 0 where
   pub all : take i u ++ map held (valuesOf s at (n - i)) ≡ map held (valuesOf s from n)
   pub rest : drop i u ≡ drop i u₀
-  pub most : (j : ℕ) → j < i → getD u j 0 ≤ suc mostValue
   pub long : length u ≡ length u₀
 
 pub filling-none : (s : List ℕ) (from n : ℕ) (u : List ℕ) → Filling s from n u u from 0
@@ -60,7 +58,6 @@ filling-none s from n u =
     record {
       all = ap (λ k. map held (valuesOf s from k)) (let e : n - 0 ≡ n = omega arith in e);
       rest = refl;
-      most = λ j h. absurd (omega arith);
       long = refl;
     }
 
@@ -79,9 +76,6 @@ filling-more s from n u₀ u at i r f h l d =
           ∙ ap (λ m. take i u ++ map held (valuesOf s at m)) (sym k) ∙ f .all;
       rest =
           drop-set-lt (i + 1) u i v (omega arith) ∙ sym (drop-drop 1 i u) ∙ ap (drop 1) (f .rest) ∙ drop-drop 1 i u₀;
-      most = λ j b. by-cases (decLe (suc j) i)
-          (λ e. rw (getD-set-other u i j v 0 (λ z. omega arith)) (f .most j e))
-          (λ e. let z : j ≡ i = omega arith in rw (z, getD-set-same u i v 0 long) (d .most));
       long = length-set u i v ∙ f .long;
     }
 
@@ -92,22 +86,39 @@ filling-end s from n u₀ u at i f e =
     record {
       first = ap (λ k. take k u) (sym e) ∙ sym (append-nil (take i u)) ∙ ap (λ m. take i u ++ map held (valuesOf s at m)) (sym none-left) ∙ f .all;
       rest = rw (← e) (f .rest);
-      most = λ j h. f .most j (omega arith);
     }
 
 -- ---- for a caller
 
-held-back : (xs : List (Option ℕ)) → map committed (map held xs) ≡ xs
-unfolding held committed
+held-back : (xs : List (Option ℕ)) → committed (map held xs) ≡ xs
+unfolding held
 held-back [] = refl
 held-back (none ∷ xs) = ap (λ ys. none ∷ ys) (held-back xs)
 held-back (the v ∷ xs) = ap (λ ys. the v ∷ ys) (held-back xs)
 
 -- The first n numbers mean the values that were read
-pub values-are : {s : List ℕ} {at n : ℕ} {u₀ u : List ℕ} → Valued s at n u₀ u → map committed (take n u) ≡ valuesOf s at n
-values-are {s} {at} {n} v = ap (map committed) (v .first) ∙ held-back (valuesOf s at n)
+pub values-are : {s : List ℕ} {at n : ℕ} {u₀ u : List ℕ} → Valued s at n u₀ u → committed (take n u) ≡ valuesOf s at n
+values-are {s} {at} {n} v = ap committed (v .first) ∙ held-back (valuesOf s at n)
 
-pub values-count : (s : List ℕ) (at n : ℕ) → length (valuesOf s at n) ≡ n
+held-small : (s : List ℕ) (at : ℕ) (c : Commitment) → valueAt s at ≡ c → held (valueOf c) ≤ suc mostValue
+unfolding held valueOf
+held-small s at (commitment.Number v e) h = omega (arith, value-most s at v e h)
+held-small s at (commitment.Ill e) h = omega arith
+held-small s at (commitment.Bad n p) h = omega arith
+
+held-most : (s : List ℕ) (at n j : ℕ) → getD (map held (valuesOf s at n)) j 0 ≤ suc mostValue
+unfolding valuesOf
+held-most s at zero j = omega arith
+held-most s at (suc n) zero = held-small s at (valueAt s at) refl
+held-most s at (suc n) (suc j) = held-most s (behind (valueAt s at)) n j
+
+pub values-most : {s : List ℕ} {at n : ℕ} {u₀ u : List ℕ} → Valued s at n u₀ u → (j : ℕ) → getD (take n u) j 0 ≤ suc mostValue
+values-most {s} {at} {n} v j = rw (v .first) (held-most s at n j)
+
+values-count : (s : List ℕ) (at n : ℕ) → length (valuesOf s at n) ≡ n
 unfolding valuesOf
 values-count s at zero = refl
 values-count s at (suc n) = ap suc (values-count s (behind (valueAt s at)) n)
+
+pub values-long : {s : List ℕ} {at n : ℕ} {u₀ u : List ℕ} → Valued s at n u₀ u → n ≡ length (take n u)
+values-long {s} {at} {n} v = sym (ap (λ xs. length xs) (v .first) ∙ length-map (valuesOf s at n) held ∙ values-count s at n)

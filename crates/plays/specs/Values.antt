@@ -1,11 +1,11 @@
 -- The values of secrets in a request, as a list and as numbers in a buffer. Assumes nothing.
 use mathlib.Core.Path.{_≡_}
-use Prim.Native.Nat.{ℕ, zero, suc, _≤_, _<_}
+use Prim.Native.Nat.{ℕ, zero, suc}
 use mathlib.Core.Option.{Option, none}
 use mathlib.Core.Option.{some as the}
 use mathlib.Core.List.{List, [], _∷_, map}
-use lib.ListN.{getD, take, drop}
-use Rattle.requests.specs.Part.{valueAt, mostValue}
+use lib.ListN.{take, drop}
+use Rattle.requests.specs.Part.{valueAt}
 use Rattle.plays.specs.declared.Value.{Value}
 use Rattle.requests.specs.declared.Commitment.{Commitment}
 use Rattle.requests.specs.declared.Commitment.the-variants as commitment
@@ -33,18 +33,12 @@ unfoldable pub held : Option ℕ → ℕ
 held none = 0
 held (the v) = suc v
 
-unfoldable pub committed : ℕ → Option ℕ
-committed zero = none
-committed (suc v) = the v
-
 -- One value, as it was read
 pub record Read (s : List ℕ) (at : ℕ) (r : Value) : Type 0 where
   pub is : r .held ≡ held (valueOf (valueAt s at))
   pub next : r .next ≡ behind (valueAt s at)
-  pub most : r .held ≤ suc mostValue
 
 -- A buffer that was u₀ has become u: first the n values from `at` on, then what it had
 pub record Valued (s : List ℕ) (at n : ℕ) (u₀ u : List ℕ) : Type 0 where
   pub first : take n u ≡ map held (valuesOf s at n)
   pub rest : drop n u ≡ drop n u₀
-  pub most : (i : ℕ) → i < n → getD u i 0 ≤ suc mostValue

@@ -1,9 +1,42 @@
-// The values of a `play` and of its renewals, as numbers.
+// `play`: the values of secrets, and the events on the program's ledger, each with its answer.
+use events::Event;
+use events::event_at;
+use exits::clear as clear_numbers;
+use ledger::Ledger;
+use ledger::live;
+use replies::Reply;
+use replies::answered;
 use requests::Commitment;
 use requests::value_at;
-ghost use Prim.Native.Nat.{_≤_};
+use sheets::INDEX;
+use sheets::def_secrets;
+use sheets::def_total;
+use sheets::index;
+use sheets::people;
+use tables::Sheet;
+use texts::clear;
+use texts::put_answer;
+use texts::put_end;
+ghost use mathlib.Core.Path.{_≡_};
+ghost use Prim.Native.Nat.{ℕ, _+_, _≤_};
 ghost use lib.ListN.{length};
-ghost use Rattle.plays.specs.Values.{Valued, Read};
+ghost use Rattle.bitml.specs.Answers.{endOf, playLines};
+ghost use Rattle.fields.specs.declared.Got.the-variants.{Value as read};
+ghost use Rattle.tables.specs.Entries.{held, people};
+ghost use Rattle.tables.specs.SheetOf.{sheetIn, defEntryAt};
+ghost use Rattle.events.specs.Events.{nextOf, eventsAt};
+ghost use Rattle.events.specs.declared.Lines.the-variants.{Good};
+ghost use Rattle.promises.specs.Parts.{PlayPromise};
+ghost use Rattle.sheets.specs.Ready.{Ready, Indexed};
+ghost use Rattle.ledger.specs.View.{view};
+ghost use Rattle.ledger.specs.Fit.{Fit};
+ghost use Rattle.ledger.specs.Does.{Does};
+ghost use Rattle.texts.specs.Text.{lineText, linesText};
+ghost use Rattle.texts.specs.Wrote.{Wrote};
+ghost use Rattle.replies.specs.Answer.{Gives};
+ghost use Rattle.plays.specs.Values.{valuesOf, Valued, Read};
+ghost use Rattle.plays.specs.Events.{eventOf, eventsOf};
+ghost use Rattle.plays.specs.Played.{playedFor, Line};
 
 // A value as one number, 0 for `x`, else one more than it; and the position after its field.
 pub struct Value {
@@ -38,4 +71,114 @@ pub fn values(s: &[u8], from: usize, n: usize, out: &mut [usize])
         at = v.next;
         i += 1;
     }
+}
+
+// The position behind the line of an event that was read.
+fn behind(v: Event) -> usize
+    ensures { λ r. ⌜ ((w e : ℕ) → nextOf v ≡ read w e → r ≡ e) ⌝ }
+{
+    match v {
+        Event::Wait(_, e) => e,
+        Event::Sign(_, _, _, e) => e,
+        Event::Tell(_, _, e) => e,
+        Event::Fire(_, _, e) => e,
+        Event::Renew(_, _, _, _, e) => e,
+        Event::Bad(_, p) => p,
+    }
+}
+
+// Event v, whose line starts at `at`, on the ledger.
+fn step(l: Ledger, v: Event, s: &[u8], at: usize, t: &[usize], x: &[usize]) -> Ledger
+    requires { ⌜ Ready (now t) ⌝ }
+    requires { ⌜ Indexed (held (now t)) (now x) ⌝ }
+    requires { ⌜ Fit (now t) l ⌝ }
+    requires { ⌜ Line (now s) (people (now t)) at v ⌝ }
+    ensures { λ r. ⌜ Does (now (t .entry)) l (eventOf (now (s .entry)) v) r ⌝ }
+{
+    match v {
+        Event::Wait(d, _) => l.wait(t, d),
+        Event::Sign(p, c, b, _) => l.sign(t, x, p, c, b),
+        Event::Tell(i, j, _) => l.tell(t, i, j),
+        Event::Fire(c, b, _) => l.fire(t, x, c, b),
+        Event::Renew(c, b, from, n, _) => {
+            let mut vs = [0usize; Sheet::SECRETS];
+            values(s, from, n, &mut vs);
+            l.renew(t, x, c, b, &vs[..n])
+        }
+        Event::Bad(_, _) => l,
+    }
+}
+
+// The last line: time, live contracts, paid by participant.
+fn end(l: Ledger, at: usize, t: &[usize], text: &mut [u8]) -> usize
+    requires { ⌜ Ready (now t) ⌝ }
+    requires { ⌜ Fit (now t) l ⌝ }
+    requires { ⌜ at + 400 ≤ length (now text) ⌝ }
+    ensures { λ r. ⌜ Wrote (now (text .entry)) at (lineText (endOf (view (people (now (t .entry))) l))) (now (text .exit)) r ⌝ }
+{
+    let k = people(t);
+    let paid = l.paid;
+    let time = l.time;
+    let made = l.made;
+    let lives = live(&l.alive, made);
+    put_end(text, at, time, lives, &paid[..k])
+}
+
+// All events whose lines start at `from`, the first of them in line `first` of the request, each with its answer; and the last line.
+fn play(
+    l: Ledger,
+    s: &[u8],
+    from: usize,
+    first: usize,
+    t: &[usize],
+    x: &[usize],
+    text: &mut [u8],
+) -> usize
+    requires { ⌜ Ready (now t) ⌝ }
+    requires { ⌜ Indexed (held (now t)) (now x) ⌝ }
+    requires { ⌜ Fit (now t) l ⌝ }
+    requires { ⌜ (length (now s) ≤ 65536) × (from ≤ length (now s)) × (first ≤ 100) × (180224 ≤ length (now text)) ⌝ }
+    requires { ⌜ eventsAt (now s) (people (now t)) from ≡ Good ⌝ }
+    ensures { λ r. ⌜ Wrote (now (text .entry)) 0 (linesText (playLines (sheetIn (now (t .entry))) (view (people (now (t .entry))) l) first (eventsOf (now (s .entry)) (people (now (t .entry))) from))) (now (text .exit)) r ⌝ }
+{
+    let k = people(t);
+    let mut now = l;
+    let mut at = from;
+    let mut line = first;
+    let mut e = 0;
+    while at < s.len() {
+        let v = event_at(s, at, k);
+        now = step(now, v, s, at, t, x);
+        e = put_answer(text, e, now.answer, line);
+        at = behind(v);
+        line += 1;
+    }
+    end(now, e, t, text)
+}
+
+// `play` of a sheet that stands in the table: its values start at `from`, its events at `to`.
+pub fn play_for(
+    s: &[u8],
+    from: usize,
+    to: usize,
+    t: &[usize],
+    rows: &mut [usize],
+    text: &mut [u8],
+) -> Reply
+    requires { ⌜ Ready (now t) ⌝ }
+    requires { ⌜ (length (now s) ≤ 65536) × (180224 ≤ length (now text)) ⌝ }
+    requires { ⌜ PlayPromise (now s) (people (now t)) (held (now t)) from to ⌝ }
+    ensures { λ r. ⌜ Gives (playedFor (sheetIn (now (t .entry))) (valuesOf (now (s .entry)) from (defEntryAt (held (now (t .entry))) 0 .secrets)) (eventsOf (now (s .entry)) (people (now (t .entry))) to)) (length (now (rows .entry))) (length (now (text .entry))) r (now (rows .exit)) (now (text .exit)) ⌝ }
+{
+    let mut x = [0usize; INDEX];
+    index(t, &mut x);
+    clear_numbers(rows);
+    clear(text);
+    let n = def_secrets(t, 0);
+    let mut vs = [0usize; Sheet::SECRETS];
+    values(s, from, n, &mut vs);
+    let l = Ledger::new(t, &vs[..n]);
+    let defs = def_total(t);
+    let e = play(l, s, to, defs + 3, t, &x, text);
+    answered(e)
 }

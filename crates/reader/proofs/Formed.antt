@@ -131,12 +131,12 @@ module _ (K : ℕ) (E : Entries) (ok : Promises K E) where
 
   -- ---- well-formed
 
-  in-nodes : (n b : ℕ) → b < length (branchesAt (sheetOf K E) n) → n < length (E .nodes)
+  pub in-nodes : (n b : ℕ) → b < length (branchesAt (sheetOf K E) n) → n < length (E .nodes)
   in-nodes n b h = by-cases (decLt n (length (E .nodes))) (λ a. a) (λ a.
       let e = List·getD-eq-default (sheetOf K E .nodes) noNode {n = n} (omega (arith, nodes-are K E)) in
       let h′ : b < 0 = subst (λ nd. b < length (nd .branches)) e h in absurd (omega arith))
 
-  in-branches : (n b : ℕ) → b < length (branchesAt (sheetOf K E) n) → b < branchCount E n
+  pub in-branches : (n b : ℕ) → b < length (branchesAt (sheetOf K E) n) → b < branchCount E n
   in-branches n b h = subst (λ k. b < k) (count-of K E n (in-nodes n b h)) h
 
   contract : (n b m : ℕ) → b < length (branchesAt (sheetOf K E) n) → List·Memᴰ m (parts (branchAt (sheetOf K E) n b .action))

@@ -32,3 +32,6 @@ gives-refused n m number line field u z c e = record { reply = refl; rows = e; t
 
 pub gives-as : {a : Answer} {n m : ℕ} {r q : Reply} {u b : List ℕ} → r ≡ q → Gives a n m q u b → Gives a n m r u b
 gives-as {a} {n} {m} {r} {q} {u} {b} e g = subst (λ x. Gives a n m x u b) (sym e) g
+
+pub gives-long : {a : Answer} {n n′ m m′ : ℕ} {r : Reply} {u b : List ℕ} → Gives a n m r u b → n ≡ n′ → m ≡ m′ → Gives a n′ m′ r u b
+gives-long {a} {n} {n′} {m} {m′} {r} {u} {b} g e f = subst (λ k. Gives a k m′ r u b) e (subst (λ k. Gives a n k r u b) f g)

@@ -12,7 +12,7 @@ use Rattle.bitml.specs.Sheet.{Sheet, branchesAt, branchAt, hasBranch, parts, de
 use Rattle.bitml.specs.Runs.{own, next}
 use Rattle.bitml.specs.Rows as bitml
 use Rattle.bitml.specs.Rows.{Row, has, rankOf, repeated, rowFault, faulty, check, orElse}
-use Rattle.bitml.proofs.Lists.{map-cong}
+use Rattle.bitml.proofs.Lists.{and-true, map-cong}
 use Rattle.tables.specs.Entries.{Entries, held, people}
 use Rattle.tables.specs.SheetOf.{branchEntryAt, defEntryAt, branchNumbers, branchNumber, branchCount, partNumbers, actionOf, branchOf, sheetOf, sheetIn}
 use Rattle.tables.proofs.SheetOf.{root-is, branches-are, count-of, branch-of, branch-small, next-renewal}
@@ -25,10 +25,6 @@ use Rattle.rows.specs.declared.Checked.the-variants.{Liquid, Refused}
 use Rattle.rows.proofs.Ranks.{drop-one, rows-from, rows-end, row-branch, known-has}
 
 -- ---- loops
-
-and-true : (a b : Bool) → a ≡ true → (a & b) ≡ b
-unfolding _&_
-and-true a b e = rw e
 
 module _ (T : ℕ → Bool) (xs : List ℕ) (i : ℕ) where
   pub every-no : i < length xs → T (getD xs i 0) ≡ false → every T (drop i xs) ≡ false

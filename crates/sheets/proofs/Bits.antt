@@ -11,16 +11,16 @@ use borrow.Author.Tests.{eqb-true, eq-eqb}
 use Rattle.bitml.specs.Lists.{_⇒_, every, below}
 use Rattle.bitml.proofs.Lists.{every-by-mem, every-mem, mem-up}
 
-abbrev bit : ℕ → ℕ → ℕ
+abbrev pub bit : ℕ → ℕ → ℕ
 bit x q = x / 2 ^ q % 2
 
-bit-suc : (x q : ℕ) → bit x (suc q) ≡ bit (x / 2) q
+pub bit-suc : (x q : ℕ) → bit x (suc q) ≡ bit (x / 2) q
 bit-suc x q = ap (λ y. y % 2) (rw pow-succ' (sym (div-div-eq-div-mul x 2 (2 ^ q))))
 
-bit-zero : (x : ℕ) → bit x 0 ≡ x % 2
+pub bit-zero : (x : ℕ) → bit x 0 ≡ x % 2
 bit-zero x = rw pow-zero (omega arith)
 
-none-zero : (q : ℕ) → bit 0 q ≡ 0
+pub none-zero : (q : ℕ) → bit 0 q ≡ 0
 none-zero zero = refl
 none-zero (suc q) = bit-suc 0 q ∙ none-zero q
 
@@ -32,7 +32,7 @@ pow-bit (suc q) (suc p) e =
     let w : 2 ^ suc p / 2 ≡ 2 ^ p = omega (arith, pow-succ' 2 p) in
     ap suc (pow-bit q p (ap (λ y. bit y q) (sym w) ∙ sym (bit-suc (2 ^ suc p) q) ∙ e))
 
-two : (x : ℕ) → (x % 2 ≡ 0) ⊎ (x % 2 ≡ 1)
+pub two : (x : ℕ) → (x % 2 ≡ 0) ⊎ (x % 2 ≡ 1)
 two x = by-cases (decLe (x % 2) 0) (λ h. inl (omega arith)) (λ h. inr (omega arith))
 
 one-bit : (K p x : ℕ) → x < 2 ^ K → ((q : ℕ) → q < K → bit x q ≡ 1 → q ≡ p) → (x ≡ 0) ⊎ (x ≡ 2 ^ p)

@@ -13,24 +13,11 @@ use Rattle.bitml.specs.Lists.{_&_, every, upFrom}
 use Rattle.bitml.specs.Sheet.{owns, nodeAt}
 use Rattle.bitml.specs.Runs.{own, onlySigner, ownAction}
 use Rattle.bitml.proofs.Counting.{up-more, up-none}
-use Rattle.bitml.proofs.Lists.{and-i}
+use Rattle.bitml.proofs.Lists.{and-i, and-false, and-true, and-no}
 use Rattle.tables.specs.Entries.{Entries}
 use Rattle.tables.specs.SheetOf.{nodeEntryAt, branchEntryAt, defEntryAt, cellAt, ownerOf, secretsOf, actionOf, branchOf, sheetOf}
 use Rattle.tables.proofs.SheetOf.{owner-count, owner-at, node-def, always-is}
 use Rattle.sheets.proofs.Bits.{only-none, only-mask, only-other}
-
-and-false : (a b : Bool) → a ≡ false → (a & b) ≡ false
-unfolding _&_
-and-false a b e = rw e
-
-and-true : (a b : Bool) → a ≡ true → (a & b) ≡ b
-unfolding _&_
-and-true a b e = rw e
-
-and-no : (a b : Bool) → b ≡ false → (a & b) ≡ false
-unfolding _&_
-and-no true b e = e
-and-no false b e = refl
 
 module _ (T : ℕ → Bool) (f : ℕ → ℕ) (a i n : ℕ) where
   pub every-bad : i < n → T (f (a + i)) ≡ false → every T (map f (upFrom (a + i) (n - i))) ≡ false

@@ -1,6 +1,6 @@
 -- Laws of the table: what a run of stores leaves and brings, what the sections hold, and an entry more in each. Assumes nothing.
 use Prim.Native.Nat.{ℕ, zero, suc, _+_, _*_, _<_, _≤_}
-use mathlib.Core.Path.{_≡_, refl, _∙_}
+use mathlib.Core.Path.{_≡_, refl, sym, ap, _∙_, subst}
 use mathlib.Core.List.{List, [], _∷_, _++_}
 use mathlib.Core.Logic.{by-cases}
 use mathlib.Core.Bool.{true, false}
@@ -8,9 +8,10 @@ use native.Mathlib.Decide.{decLe}
 use native.Mathlib.Nat.{add-zero}
 use native.Mathlib.Numerals.{add-one, towards-suc}
 use native.Mathlib.Omega.{arith}
-use lib.ListN.{length, getD, set, drop, length-set, length-append, List·getD-append, drop-of-length-le}
-use lib.Seq.{getD-set-same, getD-set-other, sets, getD-at, drop-cons}
+use lib.ListN.{length, getD, set, drop, length-set, length-append, List·getD-append, List·getD-eq-default, drop-of-length-le}
+use lib.Seq.{getD-set-same, getD-set-other, sets, getD-at, drop-cons, ext-getD}
 use borrow.Author.Tests.{eq-eqb, ne-eqb}
+use Rattle.bitml.proofs.Counting.{at-store}
 use Rattle.tables.specs.declared.St.{St}
 use Rattle.tables.specs.declared.Head.{Head}
 use Rattle.tables.specs.declared.Action.{Action}
@@ -69,6 +70,19 @@ firstOf-getD f (suc n) i d h =
     (λ l. let e : i ≡ n = omega arith in rw e (getD-at (firstOf f n) (f n) [] d n (firstOf-length f n)))
     (λ l. let k : i < length (firstOf f n) = rw (firstOf-length f n) (omega arith) in
     List·getD-append (firstOf f n) (f n ∷ []) d i k ∙ firstOf-getD f n i d (omega arith))
+
+pub firstOf-past : {A : Type 0} (f : ℕ → A) (n i : ℕ) (d : A) → n ≤ i → getD (firstOf f n) i d ≡ d
+firstOf-past f n i d h = List·getD-eq-default (firstOf f n) d {n = i} (rw (firstOf-length f n) h)
+
+-- g is f but for a at c
+pub firstOf-set : {A : Type 0} (f g : ℕ → A) (n c : ℕ) (a d : A) → c < n → g c ≡ a → ((i : ℕ) → i < n → (i ≡ c → ⊥) → g i ≡ f i) → firstOf g n ≡ set (firstOf f n) c a
+firstOf-set f g n c a d h e o =
+    let lf = firstOf-length f n in
+    let lg = firstOf-length g n in
+    ext-getD d (firstOf g n) (set (firstOf f n) c a) (rw length-set (lg ∙ sym lf))
+    (λ j l. let k : j < n = subst (λ m. j < m) lg l in
+    firstOf-getD g n j d k
+    ∙ at-store (λ y. g j ≡ y) (firstOf f n) c j a d (subst (λ m. c < m) (sym lf) h) (λ ne. o j k ne ∙ sym (firstOf-getD f n j d k)) (λ q. ap g q ∙ e))
 
 at-place : (vs t : List ℕ) (i k j : ℕ) → j ≡ i + k → k < length vs → i + length vs ≤ length t → getD (sets t i vs) j 0 ≡ getD vs k 0
 at-place vs t i k j e h l = rw e (sets-at vs t i k h l)

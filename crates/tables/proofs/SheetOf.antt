@@ -36,7 +36,7 @@ keep-le T (x ∷ xs) = go (T x) (keep-le T xs)
     go true h = omega arith
     go false h = omega arith
 
-map-map : {A B C : Type 0} (g : B → C) (f : A → B) (xs : List A) → map g (map f xs) ≡ map (λ a. g (f a)) xs
+pub map-map : {A B C : Type 0} (g : B → C) (f : A → B) (xs : List A) → map g (map f xs) ≡ map (λ a. g (f a)) xs
 map-map g f [] = refl
 map-map g f (a ∷ xs) = ap (λ ys. g (f a) ∷ ys) (map-map g f xs)
 

@@ -1,0 +1,364 @@
+//! The library against the model, in one process and run: microseconds by request, and their ratio.
+//!
+//! ```text
+//! bash bench/run
+//! ```
+//!
+//! Both sides have the same duty: from the bytes of a request to a reply, with every byte of the same
+//! two buffers written, zeros past the answer.  The runs of the two alternate, so that a busy machine
+//! hits both alike, and the medians are compared.
+
+#[allow(dead_code)]
+#[path = "../tests/model/cases.rs"]
+mod cases;
+#[path = "../tests/entry/library.rs"]
+mod library;
+#[allow(dead_code)]
+#[path = "../tests/model/model.rs"]
+mod model;
+
+use std::hint::black_box;
+use std::process::{Command, ExitCode};
+use std::time::{Duration, Instant};
+
+use library::{Reply, Row};
+
+/// So long is one request run, both sides together.
+const TIME: Duration = Duration::from_millis(1_500);
+/// And at least so many times.
+const RUNS: usize = 31;
+
+// ---------------------------------------------------------------------------------------------
+// Requests
+// ---------------------------------------------------------------------------------------------
+
+/// Grows the largest sheet: 512 nodes of two branches each, all reached, an exit from each for
+/// participant 0.
+struct Largest {
+    text: String,
+    /// How many reveals with a condition of 64 fields are left to place.
+    long: usize,
+    /// Digits that opening times may still take up, so that the sheet gets its length.
+    padding: usize,
+}
+
+impl Largest {
+    /// A condition of 64 fields: `not` twice, `lt`, two fields, 19 sums of three, two fields.
+    fn condition() -> String {
+        let sums: String = (0..19)
+            .map(|sum| format!("add,{},", if sum % 2 == 0 { "k,1000000000" } else { "v,6" }))
+            .collect();
+        format!("not,not,lt,v,7,{sums}k,1")
+    }
+
+    /// Signers and opening time.
+    fn guard(&mut self, signers: &str) {
+        let digits = 1 + self.padding.min(9);
+        self.padding -= digits - 1;
+        self.text += &format!(",{signers},{}", "1".repeat(digits));
+    }
+
+    /// A contract of so many nodes, itself counted.
+    fn contract(&mut self, nodes: usize) {
+        let mut held = nodes - 1;
+        let long = self.long > 0 && held > 0;
+        if long {
+            self.long -= 1;
+            held -= 1;
+        }
+        self.text += ",c,2";
+        self.guard("0");
+        if held == 0 {
+            self.text += ",w,0";
+        } else {
+            let parts = held.min(8);
+            self.text += &format!(",s,{parts}");
+            for part in 0..parts {
+                self.text += ",1000";
+                self.contract(held / parts + usize::from(part < held % parts));
+            }
+        }
+        self.guard("65535");
+        if long {
+            self.text += &format!(",r,8,0,1,2,3,4,5,6,7,{}", Self::condition());
+            self.contract(1);
+        } else {
+            self.text += ",w,15";
+        }
+    }
+
+    fn sheet(long: usize, padding: usize) -> String {
+        let mut largest = Largest {
+            text: "bitml,16,1\n".to_string(),
+            long,
+            padding,
+        };
+        let deposits = ",100000000000000".repeat(16);
+        largest.text += &format!("def{deposits},8{}", ",0".repeat(8));
+        largest.contract(model::NODES);
+        largest.text + "\n"
+    }
+}
+
+/// The largest sheet, at just 32,768 bytes.
+fn largest_sheet() -> String {
+    let fits = |long: &usize| Largest::sheet(*long, 0).len() <= model::SHEET_BYTES;
+    let long = (0..model::NODES).take_while(fits).last().unwrap_or(0);
+    let missing = model::SHEET_BYTES - Largest::sheet(long, 0).len();
+    let sheet = Largest::sheet(long, missing);
+    assert_eq!(sheet.len(), model::SHEET_BYTES);
+    sheet
+}
+
+/// As many whole lines as fit into a request.
+fn filled(head: String, mut line: impl FnMut(usize) -> String) -> String {
+    let mut text = head;
+    for index in 0.. {
+        let next = line(index);
+        if text.len() + next.len() > model::REQUEST_BYTES {
+            break;
+        }
+        text += &next;
+    }
+    text
+}
+
+/// Waits up to the last byte of a request, of which at least 7 are left.
+fn to_the_end(mut text: String) -> String {
+    while model::REQUEST_BYTES - text.len() >= 14 {
+        text += "wait,1\n";
+    }
+    let digits = model::REQUEST_BYTES - text.len() - "wait,\n".len();
+    text + &format!("wait,{}\n", "1".repeat(digits))
+}
+
+/// All kinds of events, taken while the ledger has room and refused afterwards.
+fn mixed_events() -> String {
+    let part = "1,c,2,0,0,w,1,1,0,r,1,0,lt,v,0,k,9,c,1,0,0,w,0";
+    let parts = vec![part; 7].join(",");
+    let sheet = format!(
+        "bitml,2,1\ndef,1000,1000,1,0,c,2,0,0,s,8,{parts},1,c,2,3,0,g,0,0,1000000,w,1,0,9,w,0\n"
+    );
+    // A round splits contract 9n and renews the last part as 9n + 9 (a split makes 8, a renewal 1);
+    // two other parts go on by one of their branches each.
+    let text = filled(format!("{sheet}play,5\n"), |round| {
+        let (first, set) = (9 * round, round);
+        let (last, told, paid) = (first + 8, first + 1, first + 2);
+        format!(
+            "fire,{first},0\ntell,{set},0\nsign,0,{told},1\nfire,{told},1\nwait,1\nfire,{paid},0\n\
+             sign,0,{last},0\nsign,1,{last},0\nrenew,{last},0,{}\n",
+            round % 12
+        )
+    });
+    to_the_end(text)
+}
+
+/// Firings that a condition of 64 fields refuses, each after evaluating it whole.
+fn long_conditions() -> String {
+    let condition = format!("not,not,eq,k,0,{}k,1000000000", "add,v,0,".repeat(19));
+    let sheet = format!("bitml,1,1\ndef,1,1,0,c,1,0,0,r,1,0,{condition},c,0\n");
+    filled(format!("{sheet}play,1\ntell,0,0\n"), |_| {
+        "fire,0,0\n".to_string()
+    })
+}
+
+fn requests() -> Vec<(&'static str, String)> {
+    let sheet = largest_sheet();
+    let make = format!("{sheet}make,0\n");
+    let (reply, _) = model::judge(make.as_bytes());
+    let printed = reply.printed();
+    let rows = printed.rsplit_once("liquid").map_or("", |(rows, _)| rows);
+    assert_eq!(rows.lines().count(), model::ROWS);
+    vec![
+        ("smallest", format!("{}make,0\n", cases::T)),
+        ("largest sheet, make", make),
+        ("largest sheet, check", format!("{sheet}check,0\n{rows}")),
+        ("mixed events", mixed_events()),
+        (
+            "9,350 waits",
+            format!("{}play\n{}", cases::N, "wait,1\n".repeat(9_350)),
+        ),
+        ("conditions of 64 fields", long_conditions()),
+    ]
+}
+
+// ---------------------------------------------------------------------------------------------
+// Runs
+// ---------------------------------------------------------------------------------------------
+
+struct Buffers {
+    rows: Vec<Row>,
+    text: Vec<u8>,
+}
+
+impl Buffers {
+    fn new() -> Buffers {
+        Buffers {
+            rows: vec![Row::default(); library::ROWS],
+            text: vec![b'?'; library::TEXT],
+        }
+    }
+
+    fn by_library(&mut self, request: &[u8]) -> Reply {
+        library::judge(request, &mut self.rows, &mut self.text)
+    }
+
+    /// The model with the library's duty: the answer stands in the buffers, zeros past it.
+    fn by_model(&mut self, request: &[u8]) -> Reply {
+        let (reply, rows) = model::judge(request);
+        for (place, (node, branch, rank)) in self.rows.iter_mut().zip(&rows) {
+            *place = Row {
+                node: *node as usize,
+                branch: *branch as usize,
+                rank: *rank as usize,
+            };
+        }
+        self.rows[rows.len()..].fill(Row::default());
+        let mut answer = Reply::default();
+        match reply {
+            model::Reply::Refused {
+                number,
+                line,
+                field,
+            } => (answer.number, answer.line, answer.field) = (number as usize, line, field),
+            model::Reply::Text(text) => {
+                answer.length = text.len();
+                self.text[..text.len()].copy_from_slice(text.as_bytes());
+            }
+        }
+        self.text[answer.length..].fill(0);
+        answer
+    }
+
+    /// What every answer costs at least: both buffers cleared.
+    fn cleared(&mut self) {
+        black_box(&mut self.rows).fill(Row::default());
+        black_box(&mut self.text).fill(0);
+    }
+}
+
+/// The median in microseconds.
+fn median(mut times: Vec<Duration>) -> f64 {
+    times.sort_unstable();
+    times[times.len() / 2].as_secs_f64() * 1e6
+}
+
+fn timed<T>(times: &mut Vec<Duration>, run: impl FnOnce() -> T) -> T {
+    let start = Instant::now();
+    let answer = black_box(run());
+    times.push(start.elapsed());
+    answer
+}
+
+/// Medians of the library and of the model; their answers must be the same.
+fn race(request: &[u8]) -> Result<(f64, f64, usize), String> {
+    let (mut ours, mut theirs) = (Buffers::new(), Buffers::new());
+    let (mut library, mut model) = (Vec::new(), Vec::new());
+    let start = Instant::now();
+    while start.elapsed() < TIME || library.len() < RUNS {
+        let due = timed(&mut model, || theirs.by_model(black_box(request)));
+        let got = timed(&mut library, || ours.by_library(black_box(request)));
+        if got != due || ours.text != theirs.text || ours.rows != theirs.rows {
+            return Err(format!("due {due:?}, got {got:?}"));
+        }
+    }
+    let runs = library.len();
+    Ok((median(library), median(model), runs))
+}
+
+/// How many lines the answer has, and how many of them are `taken`.
+fn lines(request: &[u8]) -> (usize, usize) {
+    let (reply, _) = model::judge(request);
+    let printed = reply.printed();
+    let taken = printed.lines().filter(|line| *line == "taken");
+    (printed.lines().count(), taken.count())
+}
+
+fn bench() -> Result<(), String> {
+    println!("medians in microseconds; a ratio above 1 means that the library takes longer");
+    println!(
+        "{:24} {:>7} {:>7} {:>7} {:>10} {:>10} {:>7} {:>7}",
+        "request", "bytes", "lines", "taken", "library", "model", "ratio", "runs"
+    );
+    for (name, request) in requests() {
+        let request = request.as_bytes();
+        let (library, model, runs) = race(request).map_err(|what| format!("{name}: {what}"))?;
+        let (bytes, (lines, taken)) = (request.len(), lines(request));
+        let ratio = library / model;
+        println!(
+            "{name:24} {bytes:7} {lines:7} {taken:7} {library:10.1} {model:10.1} {ratio:7.2} {runs:7}"
+        );
+    }
+    let mut buffers = Buffers::new();
+    let mut times = Vec::new();
+    for _ in 0..1_000 {
+        timed(&mut times, || buffers.cleared());
+    }
+    println!(
+        "clearing both buffers, which every answer does: {:.1}",
+        median(times)
+    );
+    // What the ratios mean, so that nobody reads too much into them.
+    println!(
+        "The model looks at each field once, and its time grows with the length of the request;"
+    );
+    println!(
+        "but it is written for plainness, with trees and lists on the heap.  A program written"
+    );
+    println!("for speed would be quicker than the model, so a ratio near 1 is no praise.");
+    Ok(())
+}
+
+// ---------------------------------------------------------------------------------------------
+// The stack
+// ---------------------------------------------------------------------------------------------
+
+/// Answers each request on a thread with a stack of so many KiB; the process dies if that is short.
+fn on_stack(kib: usize) -> bool {
+    // The requests are made on the main thread: the model that helps to make them needs stack too.
+    let requests = requests();
+    let run = move || {
+        let mut buffers = Buffers::new();
+        requests
+            .iter()
+            .all(|(_, request)| buffers.by_library(request.as_bytes()).number == 0)
+    };
+    let thread = std::thread::Builder::new().stack_size(kib << 10).spawn(run);
+    matches!(thread.map(|thread| thread.join()), Ok(Ok(true)))
+}
+
+/// The smallest of these stacks on which all requests above are answered, each tried by a process
+/// of its own.
+fn report_stack() -> std::io::Result<()> {
+    let program = std::env::current_exe()?;
+    for kib in [64, 128, 256, 512, 768, 1_024, 1_536, 2_048, 4_096, 8_192] {
+        let output = Command::new(&program)
+            .args(["stack", &kib.to_string()])
+            .output()?;
+        if output.status.success() {
+            println!("a stack of {kib} KiB is enough for these requests");
+            return Ok(());
+        }
+    }
+    println!("8 MiB of stack are not enough");
+    Ok(())
+}
+
+fn main() -> ExitCode {
+    let arguments: Vec<String> = std::env::args().skip(1).collect();
+    if let [word, kib] = arguments.as_slice() {
+        let enough = word == "stack" && kib.parse().is_ok_and(on_stack);
+        return ExitCode::from(u8::from(!enough));
+    }
+    if let Err(what) = bench() {
+        println!("the two differ: {what}");
+        return ExitCode::FAILURE;
+    }
+    match report_stack() {
+        Ok(()) => ExitCode::SUCCESS,
+        Err(error) => {
+            println!("{error}");
+            ExitCode::FAILURE
+        }
+    }
+}

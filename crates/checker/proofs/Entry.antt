@@ -1,0 +1,204 @@
+-- What was read is what is judged. Assumes nothing.
+use mathlib.Core.Path.{_≡_, refl, sym, ap, ap₂, _∙_, subst}
+use Prim.Native.Nat.{ℕ, _-_, _*_, _≤_, _<_}
+use native.Mathlib.Omega.{arith}
+use mathlib.Core.Bool.{Bool, true, false, cond}
+use mathlib.Core.List.{List, []}
+use lib.ListN.{length, take, replicate, getD, length-append}
+use lib.Seq.{length-take-le, take-append-seam}
+use lib.Dec.{eqb}
+use borrow.Author.Tests.{eqb-true, eq-eqb, ne-eqb, le-leb, lt-leb}
+use mathlib.Core.Logic.{by-cases}
+use native.Mathlib.Decide.{decLe}
+use Rattle.bitml.specs.Lists.{_&_, ask}
+use Rattle.bitml.specs.Rows as bitml
+use Rattle.tables.specs.Entries.{held, people}
+use Rattle.tables.specs.SheetOf.{sheetIn, nodeEntryAt, defEntryAt}
+use Rattle.tables.proofs.Laws.{firstOf-getD}
+use Rattle.tables.proofs.Held.{node-held}
+use Rattle.requests.specs.Rows.{RowFits, countIn, row, rowIn, rowsOf}
+use Rattle.requests.proofs.Laws.{rows-length}
+use Rattle.reader.specs.declared.Request.{Request}
+use Rattle.reader.specs.declared.Request.the-variants as code
+use Rattle.reader.specs.Request.{readRequest, answered, make, check, play}
+use Rattle.promises.specs.Parts.{PlayPromise, PartPromise}
+use Rattle.promises.specs.Texts.{PromisedWhole}
+use Rattle.promises.proofs.Whole.{promised-whole}
+use Rattle.sheets.specs.Ready.{Ready}
+use Rattle.rows.specs.Given.{RowsFit}
+use Rattle.replies.specs.declared.Reply.{Reply}
+use Rattle.exits.specs.Made.{flat, filled}
+use Rattle.exits.proofs.Buffer.{flat-length}
+use Rattle.texts.specs.Wrote.{Wrote}
+use Rattle.texts.specs.Text.{lineText, linesText}
+use Rattle.texts.proofs.Writing.{wrote-none}
+use Rattle.lent.specs.Structs.{structs}
+use Rattle.lent.proofs.Structs.{structs-filled, structs-cleared}
+use Rattle.bitml.specs.Answers.{refusedLine}
+use Rattle.replies.specs.Answer.{Answer, refused, printed, replyOf, numbersOf, bytesOf, Gives}
+use Rattle.verdicts.specs.Judged.{madeFor, checkedFor}
+use Rattle.plays.specs.Values.{valuesOf}
+use Rattle.plays.specs.Events.{eventsOf}
+use Rattle.plays.specs.Played.{playedFor}
+use Rattle.checker.specs.Entry.{answerFor, judged, early, answerTo, placesOf, refusedIn, textOf}
+
+-- ---- what is known of the table t and the row buffer u after reading
+
+row-fits : (t u : List ℕ) (n i : ℕ) → i < n → RowFits (λ m. nodeEntryAt (held t) m .count) (length (held t .nodes)) (getD (rowsOf n u) i (row 0 0 0))
+    → RowFits (countIn t) (length (held t .nodes)) (rowIn u i)
+unfolding rowsOf
+row-fits t u n i h f =
+    let g : RowFits (λ m. nodeEntryAt (held t) m .count) (length (held t .nodes)) (rowIn u i) = subst (RowFits (λ m. nodeEntryAt (held t) m .count) (length (held t .nodes))) (firstOf-getD (rowIn u) n i (row 0 0 0) h) f in
+    record {
+      has-node = g .has-node;
+      has-branch = subst (λ k. rowIn u i .branch < k) (ap (λ e. e .count) (node-held t (rowIn u i .node) (g .has-node))) (g .has-branch);
+      has-rank = g .has-rank;
+      rank-most = g .rank-most;
+    }
+
+module _ (s t u : List ℕ) (x : Request) (read : answered x t u ≡ readRequest s) where
+  pub ready-make : (p : ℕ) → x ≡ code.Make p → 52072 ≤ length t → Ready t × (p < people t)
+  unfolding answered PromisedWhole PartPromise
+  ready-make p e long =
+      let k = promised-whole s (people t) (held t) (make p) (sym (ap (λ y. answered y t u) (sym e) ∙ read)) in
+      (record { long = long; promises = k .0 }, k .1)
+
+  pub ready-check : (p n : ℕ) → x ≡ code.Check p n → 52072 ≤ length t → 1536 ≤ length u → Ready t × (p < people t) × RowsFit t u n
+  unfolding answered PromisedWhole PartPromise
+  ready-check p n e long wide =
+      let k = promised-whole s (people t) (held t) (check p (rowsOf n u)) (sym (ap (λ y. answered y t u) (sym e) ∙ read)) in
+      let l = rows-length n u in (
+        record { long = long; promises = k .0 },
+        k .1 .0,
+        record { few = omega (arith, k .1 .1 .few); long = omega (arith, k .1 .1 .few); each = λ i h. row-fits t u n i h (k .1 .1 .each i (omega arith)) },
+      )
+
+  pub ready-play : (v e : ℕ) → x ≡ code.Play v e → 52072 ≤ length t → Ready t × PlayPromise s (people t) (held t) v e
+  unfolding answered PromisedWhole PartPromise
+  ready-play v e h long =
+      let k = promised-whole s (people t) (held t) (play v e) (sym (ap (λ y. answered y t u) (sym h) ∙ read)) in
+      (record { long = long; promises = k .0 }, k .1)
+
+  -- the answer, by what was read
+  module _ {n m : ℕ} {r : Reply} {v b : List ℕ} where
+    pub judged-make : (p : ℕ) → x ≡ code.Make p → Gives (madeFor (sheetIn t) p) n m r v b → Gives (judged s (readRequest s)) n m r v b
+    unfolding answered judged answerFor
+    judged-make p e g = subst (λ w. Gives (judged s w) n m r v b) (ap (λ y. answered y t u) (sym e) ∙ read) g
+
+    pub judged-check : (p k : ℕ) → x ≡ code.Check p k → Gives (checkedFor (sheetIn t) p (rowsOf k u)) n m r v b → Gives (judged s (readRequest s)) n m r v b
+    unfolding answered judged answerFor
+    judged-check p k e g = subst (λ w. Gives (judged s w) n m r v b) (ap (λ y. answered y t u) (sym e) ∙ read) g
+
+    pub judged-play : (w e : ℕ) → x ≡ code.Play w e
+        → Gives (playedFor (sheetIn t) (valuesOf s w (defEntryAt (held t) 0 .secrets)) (eventsOf s (people t) e)) n m r v b → Gives (judged s (readRequest s)) n m r v b
+    unfolding answered judged answerFor
+    judged-play w e h g = subst (λ y. Gives (judged s y) n m r v b) (ap (λ y. answered y t u) (sym h) ∙ read) g
+
+    pub judged-refused : (i l f : ℕ) → x ≡ code.Refused i l f → Gives (refused i l f) n m r v b → Gives (judged s (readRequest s)) n m r v b
+    unfolding answered judged
+    judged-refused i l f e g = subst (λ w. Gives (judged s w) n m r v b) (ap (λ y. answered y t u) (sym e) ∙ read) g
+
+-- ---- before reading
+
+module _ (bytes rows text : ℕ) where
+  pub early-long : 65536 < bytes → 1 ≡ early bytes rows text
+  unfolding early ask
+  early-long h = rw (lt-leb bytes 65536 h)
+
+  pub early-rows : bytes ≤ 65536 → rows < 512 → 7 ≡ early bytes rows text
+  unfolding early ask _&_
+  early-rows h k = rw (le-leb bytes 65536 h, lt-leb 512 rows k)
+
+  pub early-text : bytes ≤ 65536 → 512 ≤ rows → text < 180224 → 7 ≡ early bytes rows text
+  unfolding early ask _&_
+  early-text h k l = rw (le-leb bytes 65536 h, le-leb 512 rows k, lt-leb 180224 text l)
+
+  pub early-none : bytes ≤ 65536 → 512 ≤ rows → 180224 ≤ text → 0 ≡ early bytes rows text
+  unfolding early ask _&_
+  early-none h k l = rw (le-leb bytes 65536 h, le-leb 512 rows k, le-leb 180224 text l)
+
+-- an answer by what refuses early
+module _ (s : List ℕ) (rows n m : ℕ) (r : Reply) (u b : List ℕ) where
+  pub answer-early : (k : ℕ) → k ≡ early (length s) rows m → (k ≡ 0 → ⊥) → Gives (refused k 0 0) n m r u b → Gives (answerTo s rows m) n m r u b
+  unfolding answerTo
+  answer-early k e f g =
+      subst (λ a. Gives a n m r u b)
+      (ap (λ i. refused i 0 0) e ∙ sym (ap (λ x. cond x (judged s (readRequest s)) (refused (early (length s) rows m) 0 0)) (ap (λ i. eqb i 0) (sym e) ∙ ne-eqb k 0 f)))
+      g
+
+  pub answer-judged : (k : ℕ) → k ≡ early (length s) rows m → k ≡ 0 → Gives (judged s (readRequest s)) n m r u b → Gives (answerTo s rows m) n m r u b
+  unfolding answerTo
+  answer-judged k e f g =
+      subst (λ a. Gives a n m r u b)
+      (sym (ap (λ x. cond x (judged s (readRequest s)) (refused (early (length s) rows m) 0 0)) (ap (λ i. eqb i 0) (sym e) ∙ eq-eqb k 0 f)))
+      g
+
+-- ---- the rows of an answer, from 1,536 numbers
+
+filled-few : (L : ℕ) (R : List bitml.Row) → length (filled L R) ≡ L → 3 * length R ≤ L
+unfolding filled
+filled-few L R e = omega (arith, e, flat-length R, length-append (flat R) (replicate (L - 3 * length R) 0))
+
+places : (a : Answer) (n L : ℕ) → L ≡ 1536 → 512 ≤ n → length (numbersOf L a) ≡ L → structs n (numbersOf L a) ≡ placesOf n a
+unfolding numbersOf placesOf
+places (refused i l f) n L e h k = structs-cleared n L
+places (printed ls R) n L e h k = structs-filled n L R (omega (arith, filled-few L R k))
+
+-- fewer than 512 places are refused
+early-few : (bytes rows text : ℕ) → early bytes rows text ≡ 0 → 512 ≤ rows
+early-few bytes rows text e =
+    by-cases (decLe 512 rows) (λ h. h)
+    (λ h. by-cases (decLe bytes 65536) (λ k. absurd (omega (arith, early-rows bytes rows text k (omega arith), e))) (λ k. absurd (omega (arith, early-long bytes rows text (omega arith), e))))
+
+pub places-are : (s : List ℕ) (n m : ℕ) (xs : List ℕ) (L : ℕ) → L ≡ 1536 → xs ≡ numbersOf L (answerTo s n m) → length xs ≡ L → structs n xs ≡ placesOf n (answerTo s n m)
+unfolding answerTo numbersOf placesOf
+places-are s n m xs L w e k = ap (structs n) e ∙ go (eqb (early (length s) n m) 0) refl (ap (λ us. length us) (sym e) ∙ k)
+  where
+    go : (x : Bool) → eqb (early (length s) n m) 0 ≡ x → length (numbersOf L (cond x (judged s (readRequest s)) (refused (early (length s) n m) 0 0))) ≡ L
+        → structs n (numbersOf L (cond x (judged s (readRequest s)) (refused (early (length s) n m) 0 0))) ≡ placesOf n (cond x (judged s (readRequest s)) (refused (early (length s) n m) 0 0))
+    go true q k = places (judged s (readRequest s)) n L w (early-few (length s) n m (eqb-true (early (length s) n m) 0 q)) k
+    go false q k = structs-cleared n L
+
+-- ---- the line of a refused request
+
+module _ (number l f : ℕ) (u : List ℕ) where
+  pub line-none : length u < 80 → Wrote u 0 (refusedIn (length u) number l f) u 0
+  unfolding refusedIn
+  line-none h = rw (lt-leb 80 (length u) h) (wrote-none u 0)
+
+  pub line-whole : 80 ≤ length u → (v : List ℕ) (r : ℕ) → Wrote u 0 (lineText (refusedLine number l f)) v r → Wrote u 0 (refusedIn (length u) number l f) v r
+  unfolding refusedIn
+  line-whole h v r w = rw (le-leb 80 (length u) h) w
+
+-- ---- what is printed
+
+pub take-known : (r : ℕ) (u : List ℕ) → r ≤ length u → (r ≤ length u) × (r ≡ length (take r u))
+take-known r u h = (h, sym (length-take-le r u h))
+
+module _ (a : Answer) (m : ℕ) (r : Reply) (b : List ℕ) (told : r ≡ replyOf a) (wrote : b ≡ bytesOf m a) (long : length b ≡ m) where
+  within : (a : Answer) → length (bytesOf m a) ≡ m → replyOf a .length ≤ m
+  unfolding replyOf bytesOf
+  within (refused n l f) e = omega arith
+  within (printed ls R) e = omega (arith, e, length-append (linesText ls) (replicate (m - length (linesText ls)) 0))
+
+  pub answer-within : r .length ≤ length b
+  answer-within = let h = within a (ap (λ u. length u) (sym wrote) ∙ long) in omega (arith, h, ap (λ (q : Reply). q .length) told)
+
+  shown : (a : Answer) → replyOf a .number ≡ 0 → take (replyOf a .length) (bytesOf m a) ≡ textOf a
+  unfolding replyOf bytesOf textOf
+  shown (refused n l f) e = rw (eq-eqb n 0 e)
+  shown (printed ls R) e = take-append-seam (linesText ls) (replicate (m - length (linesText ls)) 0)
+
+  pub answer-shown : r .number ≡ 0 → take (r .length) b ≡ textOf a
+  answer-shown e = ap₂ (λ (q : Reply) u. take (q .length) u) told wrote ∙ shown a (ap (λ (q : Reply). q .number) (sym told) ∙ e)
+
+  declined : (a : Answer) → (replyOf a .number ≡ 0 → ⊥) → lineText (refusedLine (replyOf a .number) (replyOf a .line) (replyOf a .field)) ≡ textOf a
+  unfolding replyOf textOf
+  declined (refused n l f) e = rw (ne-eqb n 0 e)
+  declined (printed ls R) e = absurd (e refl)
+
+  pub refusal-shown : 80 ≤ length b → (r .number ≡ 0 → ⊥) → (v : List ℕ) (k : ℕ) → Wrote b 0 (refusedIn (length b) (r .number) (r .line) (r .field)) v k → take k v ≡ textOf a
+  unfolding refusedIn
+  refusal-shown h e v k w =
+      w .front ∙ ap (λ x. cond x (lineText (refusedLine (r .number) (r .line) (r .field))) []) (le-leb 80 (length b) h)
+      ∙ ap (λ (q : Reply). lineText (refusedLine (q .number) (q .line) (q .field))) told ∙ declined a (λ z. e (ap (λ (q : Reply). q .number) told ∙ z))

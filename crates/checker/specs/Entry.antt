@@ -1,0 +1,54 @@
+-- THE DEFINITION of the reply: from the request's bytes and the lengths of the lent buffers. Assumes nothing.
+use Prim.Native.Nat.{ℕ, _-_}
+use mathlib.Core.Bool.{cond}
+use mathlib.Core.List.{List, [], _++_, map}
+use lib.ListN.{length, replicate}
+use lib.Dec.{leb, eqb}
+use Rattle.bitml.specs.Lists.{_&_, ask}
+use Rattle.tables.specs.Entries.{Entries}
+use Rattle.tables.specs.SheetOf.{sheetOf, defEntryAt}
+use Rattle.reader.specs.Request.{Reading, request, LastPart, make, check, play, readRequest}
+use Rattle.reader.specs.Request.{refused as unread}
+use Rattle.bitml.specs.Answers.{refusedLine}
+use Rattle.texts.specs.Text.{lineText, linesText}
+use Rattle.lent.specs.declared.Row.{Row}
+use Rattle.lent.specs.Structs.{noRow, structOf}
+use Rattle.replies.specs.Answer.{Answer, refused, printed}
+use Rattle.verdicts.specs.Judged.{madeFor, checkedFor}
+use Rattle.plays.specs.Values.{valuesOf}
+use Rattle.plays.specs.Events.{eventsOf}
+use Rattle.plays.specs.Played.{playedFor}
+
+-- "one last part: `make`,P; or `check`,P ..; or `play` .."
+unfoldable pub answerFor : List ℕ → ℕ → Entries → LastPart → Answer
+answerFor s K E (make p) = madeFor (sheetOf K E) p
+answerFor s K E (check p R) = checkedFor (sheetOf K E) p R
+answerFor s K E (play v e) = playedFor (sheetOf K E) (valuesOf s v (defEntryAt E 0 .secrets)) (eventsOf s K e)
+
+-- "The reader goes field by field over the whole request before anything is judged"
+unfoldable pub judged : List ℕ → Reading → Answer
+judged s (request K E l) = answerFor s K E l
+judged s (unread n l f) = refused n l f
+
+-- "over 65,536 bytes; line 0, field 0"; "a lent row buffer under 512 (line 0, field 0)", and so a text buffer in which not every reply fits:
+-- "1, then short buffers, come first"
+unfoldable pub early : ℕ → ℕ → ℕ → ℕ
+early bytes rows text = ask (leb bytes 65536) 1 (ask (leb 512 rows & leb 180224 text) 7 0)
+
+-- a request of the bytes s, with places for so many rows and bytes of text
+unfoldable pub answerTo : List ℕ → ℕ → ℕ → Answer
+answerTo s rows text = cond (eqb (early (length s) rows text) 0) (judged s (readRequest s)) (refused (early (length s) rows text) 0 0)
+
+-- "The row buffer holds the rows .. and is zero past them; it is wholly zero after .. a refused request": a buffer of n places
+unfoldable pub placesOf : ℕ → Answer → List Row
+placesOf n (refused i l f) = replicate n noRow
+placesOf n (printed ls R) = map structOf R ++ replicate (n - length R) noRow
+
+-- "Printed: `refused`,number,line,field"; or the lines of the answer. The numbers of refusals are 1 and up
+unfoldable pub textOf : Answer → List ℕ
+textOf (refused n l f) = cond (eqb n 0) [] (lineText (refusedLine n l f))
+textOf (printed ls R) = linesText ls
+
+-- the line of a refused request: what is written into a buffer of n bytes, of which 80 are enough
+unfoldable pub refusedIn : ℕ → ℕ → ℕ → ℕ → List ℕ
+refusedIn n number l f = cond (leb 80 n) (lineText (refusedLine number l f)) []

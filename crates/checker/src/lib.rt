@@ -1,0 +1,135 @@
+// The checker's entry: any request and any lent buffers get one reply.
+use lent::Row;
+use lent::emit_rows;
+use plays::play_for;
+use reader::Request;
+use reader::read;
+use replies::Reply;
+use replies::refuse;
+use tables::Sheet;
+use texts::put_refused;
+use verdicts::check_for;
+use verdicts::make_for;
+ghost use mathlib.Core.Path.{_≡_};
+ghost use Prim.Native.Nat.{_/_, _≤_};
+ghost use lib.ListN.{length, take};
+ghost use Rattle.reader.specs.Request.{readRequest};
+ghost use Rattle.texts.specs.Wrote.{Wrote};
+ghost use Rattle.replies.specs.Answer.{Gives, replyOf, numbersOf, bytesOf};
+ghost use Rattle.checker.specs.Entry.{judged, early, answerTo, placesOf, refusedIn, textOf};
+
+// The longest request, and the fewest rows that must be lent.
+const BYTES: usize = 65536;
+
+const ROWS: usize = 512;
+
+// The fewest bytes for a line of three numbers.
+const LINE: usize = 80;
+
+const TOO_LONG: usize = 1;
+
+const TOO_SHORT: usize = 7;
+
+// What refuses a request before it is read: 0 for nothing.
+fn early(bytes: usize, rows: usize, text: usize) -> usize
+    ensures { λ r. ⌜ r ≡ early bytes rows text ⌝ }
+    ensures { λ r. ⌜ (r ≡ 0 → (bytes ≤ 65536) × (512 ≤ rows) × (180224 ≤ text)) ⌝ }
+{
+    if BYTES < bytes {
+        return TOO_LONG;
+    }
+    if rows < ROWS {
+        return TOO_SHORT;
+    }
+    if text < Reply::TEXT {
+        return TOO_SHORT;
+    }
+    0
+}
+
+// A request that is not too long, with buffers that are not too short.
+fn judged(s: &[u8], rows: &mut [usize], text: &mut [u8]) -> Reply
+    requires { ⌜ (length (now s) ≤ 65536) × (1536 ≤ length (now rows)) × (180224 ≤ length (now text)) ⌝ }
+    ensures { λ r. ⌜ Gives (judged (now (s .entry)) (readRequest (now (s .entry)))) (length (now (rows .entry))) (length (now (text .entry))) r (now (rows .exit)) (now (text .exit)) ⌝ }
+{
+    let mut t = [0usize; Sheet::TABLE];
+    let r = read(s, &mut t, rows);
+    match r {
+        Request::Make(p) => make_for(&t, p, rows, text),
+        Request::Check(p, n) => check_for(&t, p, n, rows, text),
+        Request::Play(v, e) => play_for(s, v, e, &t, rows, text),
+        Request::Refused(n, l, f) => refuse(n, l, f, rows, text),
+    }
+}
+
+// The same of any request and any text buffer. The caller has places for so many rows, three numbers each, and lends them as numbers.
+pub fn judge_in(s: &[u8], room: usize, numbers: &mut [usize], text: &mut [u8]) -> Reply
+    requires { ⌜ (512 ≤ room → 1536 ≤ length (now numbers)) ⌝ }
+    ensures { λ r. ⌜ r ≡ replyOf (answerTo (now (s .entry)) room (length (now (text .entry)))) ⌝ }
+    ensures { λ r. ⌜ now (numbers .exit) ≡ numbersOf (length (now (numbers .entry))) (answerTo (now (s .entry)) room (length (now (text .entry)))) ⌝ }
+    ensures { λ r. ⌜ now (text .exit) ≡ bytesOf (length (now (text .entry))) (answerTo (now (s .entry)) room (length (now (text .entry)))) ⌝ }
+{
+    let n = early(s.len(), room, text.len());
+    if n != 0 {
+        return refuse(n, 0, 0, numbers, text);
+    }
+    judged(s, numbers, text)
+}
+
+// The entry for callers whose rows are numbers: node, branch and rank of each.
+pub fn judge_numbers(s: &[u8], numbers: &mut [usize], text: &mut [u8]) -> Reply
+    ensures { λ r. ⌜ r ≡ replyOf (answerTo (now (s .entry)) (length (now (numbers .entry)) / 3) (length (now (text .entry)))) ⌝ }
+    ensures { λ r. ⌜ now (numbers .exit) ≡ numbersOf (length (now (numbers .entry))) (answerTo (now (s .entry)) (length (now (numbers .entry)) / 3) (length (now (text .entry)))) ⌝ }
+    ensures { λ r. ⌜ now (text .exit) ≡ bytesOf (length (now (text .entry))) (answerTo (now (s .entry)) (length (now (numbers .entry)) / 3) (length (now (text .entry)))) ⌝ }
+{
+    let room = numbers.len() / 3;
+    judge_in(s, room, numbers, text)
+}
+
+// The entry for callers whose rows are structs.
+#[no_mangle]
+pub extern "C" fn hurkoxel_judge(s: &[u8], rows: &mut [Row], text: &mut [u8]) -> Reply
+    ensures { λ r. ⌜ r ≡ replyOf (answerTo (now (s .entry)) (length (now (rows .entry))) (length (now (text .entry)))) ⌝ }
+    ensures { λ r. ⌜ now (rows .exit) ≡ placesOf (length (now (rows .entry))) (answerTo (now (s .entry)) (length (now (rows .entry))) (length (now (text .entry)))) ⌝ }
+    ensures { λ r. ⌜ now (text .exit) ≡ bytesOf (length (now (text .entry))) (answerTo (now (s .entry)) (length (now (rows .entry))) (length (now (text .entry)))) ⌝ }
+{
+    let mut numbers = [0usize; 1536];
+    let r = judge_in(s, rows.len(), &mut numbers, text);
+    emit_rows(&numbers, rows);
+    r
+}
+
+// The line of a refused request, at the start of the buffer; a buffer under 80 bytes stays as it is. How many bytes were written comes back.
+pub fn refused_line(number: usize, line: usize, field: usize, text: &mut [u8]) -> usize
+    ensures { λ r. ⌜ Wrote (now (text .entry)) 0 (refusedIn (length (now (text .entry))) number line field) (now (text .exit)) r ⌝ }
+{
+    if text.len() < LINE {
+        return 0;
+    }
+    put_refused(text, 0, number, line, field)
+}
+
+// The text that is printed, at the start of the buffer: how many bytes it has comes back.
+pub fn judge_text(s: &[u8], numbers: &mut [usize], text: &mut [u8]) -> usize
+    requires { ⌜ 80 ≤ length (now text) ⌝ }
+    ensures { λ r. ⌜ (r ≤ length (now (text .exit))) × (r ≡ length (take r (now (text .exit)))) ⌝ }
+    ensures { λ r. ⌜ take r (now (text .exit)) ≡ textOf (answerTo (now (s .entry)) (length (now (numbers .entry)) / 3) (length (now (text .entry)))) ⌝ }
+{
+    let r = judge_numbers(s, numbers, text);
+    if r.number == 0 {
+        return r.length;
+    }
+    refused_line(r.number, r.line, r.field, text)
+}
+
+#[no_mangle]
+pub extern "C" fn hurkoxel_refused_line(
+    number: usize,
+    line: usize,
+    field: usize,
+    text: &mut [u8],
+) -> usize
+    ensures { λ r. ⌜ Wrote (now (text .entry)) 0 (refusedIn (length (now (text .entry))) number line field) (now (text .exit)) r ⌝ }
+{
+    refused_line(number, line, field, text)
+}

@@ -1,0 +1,4 @@
+pub mod Signing
+pub mod Sums
+pub mod Secrets
+pub mod Payable

@@ -1,0 +1,4 @@
+pub mod View
+pub mod Fit
+pub mod Does
+pub mod Steps

@@ -1,0 +1,101 @@
+-- What stands between the steps of one event. Assumes nothing.
+use mathlib.Core.Path.{_≡_}
+use Prim.Native.Nat.{ℕ, suc, _+_, _-_, _*_, _≤_, _<_}
+use mathlib.Core.Bool.{Bool, true, false}
+use mathlib.Core.List.{List, map, _++_}
+use lib.ListN.{length, getD, set}
+use lib.Dec.{leb}
+use Rattle.bitml.specs.Lists.{_&_}
+use Rattle.bitml.specs.Ledger.{Contract, splitting}
+use Rattle.tables.specs.Entries.{Entries, held, people, firstOf}
+use Rattle.tables.specs.SheetOf.{branchCount, branchNumber, partNumbers, partOf}
+use Rattle.duties.specs.Duties.{notYet, weightOf, stateOf}
+use Rattle.ledger.specs.declared.Ledger.{Ledger}
+use Rattle.ledger.specs.View.{contractOf}
+use Rattle.ledger.specs.Fit.{Lengths}
+
+-- "Contract alive, opening time not above time, all signers signed": branch b of contract c, which is entry q of the sheet
+pub record Enabled (t : List ℕ) (l : Ledger) (c b q : ℕ) : Type 0 where
+  pub here : c < l .made
+  pub lives : getD (l .alive) c false ≡ true
+  pub there : b < branchCount (held t) (getD (l .node) c 0)
+  pub entry : q ≡ branchNumber (held t) (getD (l .node) c 0) b
+  pub ready : notYet (people t) (held t) q (l .time) (getD (l .signed) (c * 16 + b) 0) ≡ 0
+
+-- What holds of the contracts while some are made
+pub record Contracts (t : List ℕ) (l : Ledger) : Type 0 where
+  pub made : l .made ≤ 256
+  pub node : (c : ℕ) → c < l .made → getD (l .node) c 0 < length (held t .nodes)
+  pub set : (c : ℕ) → c < l .made → getD (l .set) c 0 < l .sets
+  pub fresh : (k : ℕ) → l .made * 16 ≤ k → getD (l .signed) k 0 ≡ 0
+  pub lengths : Lengths (l .node) (l .balance) (l .set) (l .alive) (l .signed) (l .definition) (l .count) (l .value) (l .state) (l .paid)
+
+-- "A part of `s` gets floor(balance × weight / sum of weights); the last also the remainder": the contracts of a split of v by branch q
+abbrev pub shares : Entries → ℕ → ℕ → ℕ → List Contract
+shares E q v i = splitting v (weightOf E q) v i (map (partOf E) (partNumbers E q))
+
+-- A ledger with other contracts
+abbrev pub withContracts : Ledger → ℕ → List ℕ → List ℕ → List ℕ → List Bool → Ledger
+withContracts l made′ node′ balance′ set′ alive′ =
+    record {
+      answer = l .answer;
+      time = l .time;
+      made = made′;
+      sets = l .sets;
+      taken = l .taken;
+      node = node′;
+      balance = balance′;
+      set = set′;
+      alive = alive′;
+      signed = l .signed;
+      definition = l .definition;
+      count = l .count;
+      value = l .value;
+      state = l .state;
+      paid = l .paid;
+    }
+
+-- r has but more contracts than l
+abbrev pub Grown : Ledger → Ledger → Type 0
+Grown l r = r ≡ withContracts l (r .made) (r .node) (r .balance) (r .set) (r .alive)
+
+-- "its parts are made in order": the contracts ks are made
+pub record Makes (t : List ℕ) (l : Ledger) (ks : List Contract) (r : Ledger) : Type 0 where
+  pub grew : Grown l r
+  pub contracts : Contracts t r
+  pub are : firstOf (contractOf r) (r .made) ≡ firstOf (contractOf l) (l .made) ++ ks
+
+-- "256 contracts and 32 sets made per run .., all deposits taken 2,100,000,000,000,000": a renewal stays within them
+unfoldable pub room : ℕ → ℕ → ℕ → ℕ → Bool
+room made sets taken more = leb (suc made) 256 & leb (suc sets) 32 & leb (taken + more) 2100000000000000
+
+-- A ledger with other secrets
+abbrev pub withSecrets : Ledger → List ℕ → List ℕ → Ledger
+withSecrets l state′ value′ =
+    record {
+      answer = l .answer;
+      time = l .time;
+      made = l .made;
+      sets = l .sets;
+      taken = l .taken;
+      node = l .node;
+      balance = l .balance;
+      set = l .set;
+      alive = l .alive;
+      signed = l .signed;
+      definition = l .definition;
+      count = l .count;
+      value = value′;
+      state = state′;
+      paid = l .paid;
+    }
+
+-- "a new set, nothing told": the first n of the values vs are the secrets of set i
+pub record Stores (l : Ledger) (i : ℕ) (vs : List ℕ) (n : ℕ) (r : Ledger) : Type 0 where
+  pub grew : r ≡ withSecrets l (r .state) (r .value)
+  pub states : length (r .state) ≡ 256
+  pub values : length (r .value) ≡ 256
+  pub here : (j : ℕ) → j < n → (getD (r .state) (i * 8 + j) 0 ≡ stateOf (getD vs j 0)) × (getD (r .value) (i * 8 + j) 0 ≡ getD vs j 0 - 1)
+  pub other : (k : ℕ) → k < i * 8 → (getD (r .state) k 0 ≡ getD (l .state) k 0) × (getD (r .value) k 0 ≡ getD (l .value) k 0)
+  pub small : ((k : ℕ) → getD (l .value) k 0 ≤ 1000000000) → (k : ℕ) → getD (r .value) k 0 ≤ 1000000000
+  pub blank : ((k : ℕ) → getD (l .state) k 0 ≡ 0 → getD (l .value) k 0 ≡ 0) → (k : ℕ) → getD (r .state) k 0 ≡ 0 → getD (r .value) k 0 ≡ 0

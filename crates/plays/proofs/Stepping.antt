@@ -1,0 +1,170 @@
+-- One event on the ledger, and the next. Assumes nothing.
+use mathlib.Core.Path.{_≡_, refl, sym, ap, ap₂, _∙_, subst}
+use Prim.Native.Nat.{ℕ, suc, _+_, _-_, _*_, _≤_, _<_}
+use native.Mathlib.Omega.{arith}
+use native.Mathlib.Numerals.{add-one}
+use mathlib.Core.List.{List, [], _∷_}
+use lib.ListN.{length, getD, take}
+use lib.Seq.{ext-getD, length-take-le, getD-take}
+use Rattle.bitml.specs.Ledger.{Event}
+use Rattle.bitml.specs.Limits.{limitedRefusal, limitedStep}
+use Rattle.bitml.specs.Answers.{takenLine, endLine, orRefused, endOf}
+use Rattle.sheets.specs.Ready.{Ready}
+use Rattle.ledger.proofs.Ending.{end-is}
+use Rattle.fields.specs.declared.Got.{Got}
+use Rattle.fields.specs.declared.Got.the-variants.{Value, Bad}
+use Rattle.fields.proofs.Ranges.{never}
+use Rattle.fields.proofs.Words.{Bytes}
+use Rattle.tables.specs.Entries.{firstOf, people}
+use Rattle.tables.specs.SheetOf.{sheetIn}
+use Rattle.tables.proofs.Laws.{firstOf-length, firstOf-getD}
+use Rattle.events.specs.Events.{mostWait, mostValues, nextOf, eventAt, eventsAt}
+use Rattle.events.specs.declared.Event as read
+use Rattle.events.specs.declared.Event.the-variants as line
+use Rattle.events.specs.declared.Lines.the-variants as lines
+use Rattle.events.proofs.Sound.{Sound, event-sound}
+use Rattle.ledger.specs.declared.Ledger.{Ledger}
+use Rattle.ledger.specs.View.{view, liveOf}
+use Rattle.ledger.specs.Fit.{Fit}
+use Rattle.ledger.specs.Does.{Does}
+use Rattle.texts.specs.Text.{lineText}
+use Rattle.texts.specs.Wrote.{Wrote}
+use Rattle.plays.specs.Events.{eventOf, eventsOf}
+use Rattle.plays.specs.Played.{Line}
+use Rattle.plays.proofs.Events.{events-none, next-read, event-read, events-more, events-good, line-within, line-long}
+use Rattle.plays.proofs.Playing.{answer-most, playText, Leads, leads-all, leads-more, leads-end}
+
+-- ---- an event line
+
+-- the position behind it, where it is one
+pub next-is : (x : read.Event) (r : ℕ) → nextOf x ≡ Value 0 r → (w e : ℕ) → nextOf x ≡ Value w e → r ≡ e
+next-is x r h w e k = let z : Value 0 r ≡ Value w e = sym h ∙ k in cc
+
+pub next-none : (x : read.Event) (r n p : ℕ) → nextOf x ≡ Bad n p → (w e : ℕ) → nextOf x ≡ Value w e → r ≡ e
+next-none x r n p h w e k = never n p w e (sym h ∙ k)
+
+module _ (s : List ℕ) (people at : ℕ) (x : read.Event) (l : Line s people at x) where
+  sound : (y : read.Event) → x ≡ y → Sound s people at y
+  sound y h = subst (Sound s people at) (sym (l .read) ∙ h) (event-sound s people at)
+
+  pub wait-range : (d e : ℕ) → x ≡ line.Wait d e → (1 ≤ d) × (d ≤ mostWait)
+  unfolding Sound
+  wait-range d e h = let k = sound (line.Wait d e) h in (k .0, k .1)
+
+  pub sign-range : (p c b e : ℕ) → x ≡ line.Sign p c b e → p < people
+  unfolding Sound
+  sign-range p c b e h = sound (line.Sign p c b e) h .0
+
+  pub renew-range : (c b f n e : ℕ) → x ≡ line.Renew c b f n e → n ≤ mostValues
+  unfolding Sound
+  renew-range c b f n e h = sound (line.Renew c b f n e) h .2
+
+  pub no-event : {Q : Type 0} (n p : ℕ) → x ≡ line.Bad n p → Q
+  no-event n p h = absurd (event-read s people at (l .more) (l .good) x (l .read) n p h)
+
+pub does-as : (t : List ℕ) (l : Ledger) (e f : Event) (r : Ledger) → f ≡ e → Does t l e r → Does t l f r
+does-as t l e f r h d = subst (λ x. Does t l x r) (sym h) d
+
+-- the amounts paid to the participants
+pub paid-are : (xs : List ℕ) (K : ℕ) → K ≤ length xs → take K xs ≡ firstOf (λ p. getD xs p 0) K
+paid-are xs K h =
+    let k = length-take-le K xs h in
+    ext-getD 0 (take K xs) (firstOf (λ p. getD xs p 0) K) (k ∙ sym (firstOf-length (λ p. getD xs p 0) K))
+    (λ i l. getD-take K xs i 0 (omega arith) ∙ sym (firstOf-getD (λ p. getD xs p 0) K i 0 (omega arith)))
+
+zero-first : (x : read.Event) (w z : ℕ) → nextOf x ≡ Value w z → nextOf x ≡ Value 0 z
+unfolding nextOf
+zero-first (line.Wait d e) w z h = let k : e ≡ z = cc in ap (Value 0) k
+zero-first (line.Sign p c b e) w z h = let k : e ≡ z = cc in ap (Value 0) k
+zero-first (line.Tell i j e) w z h = let k : e ≡ z = cc in ap (Value 0) k
+zero-first (line.Fire c b e) w z h = let k : e ≡ z = cc in ap (Value 0) k
+zero-first (line.Renew c b f n e) w z h = let k : e ≡ z = cc in ap (Value 0) k
+zero-first (line.Bad n p) w z h = never n p w z h
+
+-- ---- the events so far: the ledger l₀ has become l, and of the request the lines from `at` on are left; the text ends at e
+
+pub record Goes (s t : List ℕ) (from first : ℕ) (text₀ : List ℕ) (l₀ : Ledger) (text : List ℕ) (l : Ledger) (at line e : ℕ) : Type 0 where
+  pub fit : Fit t l
+  pub good : eventsAt s (people t) at ≡ lines.Good
+  pub on : from ≤ at
+  pub inside : at ≤ length s
+  pub long : length text ≡ length text₀
+  -- An event line has 7 bytes or more, and its answer 19 at the most
+  pub room : 7 * e ≤ 19 * (at - from)
+  pub lines-few : line ≤ first + (at - from)
+  pub leads : Leads text₀ 0 (playText (sheetIn t) (view (people t) l₀) first (eventsOf s (people t) from)) text e (playText (sheetIn t) (view (people t) l) line (eventsOf s (people t) at))
+
+module _ (s t : List ℕ) (from first : ℕ) (text₀ : List ℕ) (l₀ : Ledger) where
+  pub goes-start : Fit t l₀ → eventsAt s (people t) from ≡ lines.Good → from ≤ length s → Goes s t from first text₀ l₀ text₀ l₀ from first 0
+  goes-start f g h =
+      record {
+        fit = f;
+        good = g;
+        on = omega arith;
+        inside = h;
+        long = refl;
+        room = omega arith;
+        lines-few = omega arith;
+        leads = leads-all text₀ 0 (playText (sheetIn t) (view (people t) l₀) first (eventsOf s (people t) from));
+      }
+
+  module _ (text : List ℕ) (l : Ledger) (at line e : ℕ) (g : Goes s t from first text₀ l₀ text l at line e) where
+    pub goes-end : length s ≤ at → (v : List ℕ) (c : ℕ) → Wrote text e (lineText (endOf (view (people t) l))) v c
+        → Wrote text₀ 0 (playText (sheetIn t) (view (people t) l₀) first (eventsOf s (people t) from)) v c
+    goes-end h v c w =
+        leads-end (sheetIn t) (view (people t) l) line
+        (subst (λ es. Leads text₀ 0 (playText (sheetIn t) (view (people t) l₀) first (eventsOf s (people t) from)) text e (playText (sheetIn t) (view (people t) l) line es)) (events-none s (people t) at h) (g .leads))
+        w
+
+    module _ (more : at < length s) (x : read.Event) (rd : x ≡ eventAt s (people t) at) where
+      pub goes-line : Line s (people t) at x
+      goes-line = record { more = more; good = g .good; read = rd }
+
+      -- the line's end: what `next` says of a line that can be read
+      behind-is : (q : ℕ) → ((w z : ℕ) → nextOf x ≡ Value w z → q ≡ z) → nextOf x ≡ Value 0 q
+      behind-is q f = go (nextOf x) refl
+        where
+          go : (y : Got) → nextOf x ≡ y → nextOf x ≡ Value 0 q
+          go (Value w z) h = let k = f w z h in zero-first x w z h ∙ ap (Value 0) (sym k)
+          go (Bad n p) h = absurd (next-read s (people t) at more (g .good) x rd n p h)
+
+      module _ (q : ℕ) (next : (w z : ℕ) → nextOf x ≡ Value w z → q ≡ z) where
+        pub goes-ahead : at < q
+        goes-ahead = line-within s (people t) at more (g .good) x rd 0 q (behind-is q next) .0
+
+        pub goes-more : Bytes s → length s ≤ 65536 → first ≤ 100 → (m : Ledger) (v : List ℕ) (c : ℕ) → Does t l (eventOf s x) m
+            → Wrote text e (lineText (orRefused line (m .answer) takenLine)) v c → Goes s t from first text₀ l₀ v m q (line + 1) c
+        goes-more b few low m v c d w =
+            let S = sheetIn t in
+            let P = view (people t) l in
+            let y = eventOf s x in
+            let z = behind-is q next in
+            let k = line-within s (people t) at more (g .good) x rd 0 q z in
+            let j = line-long s (people t) at more (g .good) x rd 0 q z b in
+            let w′ : Wrote text e (lineText (orRefused line (limitedRefusal S P y) takenLine)) v c = subst (λ n. Wrote text e (lineText (orRefused line n takenLine)) v c) (d .answer) w in
+            let a = answer-most S P y line (omega (arith, g .lines-few, g .inside)) in
+            let whole = playText S (view (people t) l₀) first (eventsOf s (people t) from) in
+            record {
+              fit = d .fit;
+              good = events-good s (people t) at more (g .good) x rd 0 q z;
+              on = omega (arith, g .on);
+              inside = k .1;
+              long = w .long ∙ g .long;
+              room = omega (arith, g .room, g .on, w′ .end);
+              lines-few = omega (arith, g .lines-few, g .on);
+              leads =
+                  subst (λ (p : ℕ). Leads text₀ 0 whole v c (playText S (view (people t) m) p (eventsOf s (people t) q))) (sym (add-one line))
+                  (subst (λ p. Leads text₀ 0 whole v c (playText S p (suc line) (eventsOf s (people t) q))) (sym (d .plain))
+                  (leads-more S P line y (eventsOf s (people t) q)
+                  (subst (λ es. Leads text₀ 0 whole text e (playText S P line es)) (events-more s (people t) at more (g .good) x rd 0 q z) (g .leads))
+                  w′));
+            }
+
+-- ---- the last line
+
+pub wrote-end-of : (t : List ℕ) (l : Ledger) → Ready t → Fit t l → (k n : ℕ) → k ≡ people t → n ≡ liveOf (l .alive) (l .made) → {u v : List ℕ} {a b : ℕ}
+    → Wrote u a (lineText (endLine (l .time) n (take k (l .paid)))) v b → Wrote u a (lineText (endOf (view (people t) l))) v b
+wrote-end-of t l ok f k n hk hn {u} {v} {a} {b} w =
+    let e : take k (l .paid) ≡ firstOf (λ p. getD (l .paid) p 0) (people t) =
+    ap (λ j. take j (l .paid)) hk ∙ paid-are (l .paid) (people t) (omega (arith, ok .promises .limits .people, f .lengths .paids)) in
+    subst (λ x. Wrote u a (lineText x) v b) (ap₂ (λ i ps. endLine (l .time) i ps) hn e ∙ sym (end-is (people t) l)) w

@@ -1,0 +1,71 @@
+//! The static library as a Rust program sees it; include/hurkoxel.h has the contract in words.
+
+/// Fewest rows and fewest bytes of text that must be lent.
+pub const ROWS: usize = 512;
+pub const TEXT: usize = 180_224;
+
+#[repr(C)]
+#[derive(Clone, Copy, Debug, Default, PartialEq, Eq)]
+pub struct Row {
+    pub node: usize,
+    pub branch: usize,
+    pub rank: usize,
+}
+
+/// `number` 0: answered, and `length` bytes of text; else refused.
+#[repr(C)]
+#[derive(Clone, Copy, Debug, Default, PartialEq, Eq)]
+pub struct Reply {
+    pub number: usize,
+    pub line: usize,
+    pub field: usize,
+    pub length: usize,
+}
+
+extern "C" {
+    fn hurkoxel_judge(
+        request: *const u8,
+        request_length: usize,
+        rows: *mut Row,
+        row_count: usize,
+        text: *mut u8,
+        text_length: usize,
+    ) -> Reply;
+    fn hurkoxel_refused_line(
+        number: usize,
+        line: usize,
+        field: usize,
+        text: *mut u8,
+        text_length: usize,
+    ) -> usize;
+}
+
+pub fn judge(request: &[u8], rows: &mut [Row], text: &mut [u8]) -> Reply {
+    // SAFETY: each pointer goes with its slice's length, and mutable slices overlap nothing.
+    unsafe {
+        hurkoxel_judge(
+            request.as_ptr(),
+            request.len(),
+            rows.as_mut_ptr(),
+            rows.len(),
+            text.as_mut_ptr(),
+            text.len(),
+        )
+    }
+}
+
+/// The line that `judge` prints for a refused request; `text` has 80 bytes or more.
+#[allow(dead_code)]
+pub fn refused_line<'t>(reply: &Reply, text: &'t mut [u8]) -> &'t [u8] {
+    // SAFETY: as above.
+    let length = unsafe {
+        hurkoxel_refused_line(
+            reply.number,
+            reply.line,
+            reply.field,
+            text.as_mut_ptr(),
+            text.len(),
+        )
+    };
+    &text[..length]
+}

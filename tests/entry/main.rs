@@ -1,0 +1,658 @@
+//! The entry of the static library against the model, and against requests by hand.
+//!
+//! ```text
+//! rt staticlib checker
+//! rustc -O --edition 2021 -L target/staticlib -l static=checker tests/entry/main.rs -o target/tests/entry
+//! target/tests/entry [SEED COUNT [EXAMPLES]]     1, 20000 and examples if not given
+//! ```
+//!
+//! The same memory is lent for every request and never cleared; before some calls it is filled with
+//! garbage, and what lies outside the lent parts must stay.  Of each answer the reply, every byte of
+//! text and every row is compared.  Every number from 1 to 19 must occur.
+
+#[allow(dead_code)]
+#[path = "../model/cases.rs"]
+mod cases;
+#[path = "../model/gen.rs"]
+mod generate;
+mod library;
+#[allow(dead_code)]
+#[path = "../model/model.rs"]
+mod model;
+
+use std::ops::Range;
+use std::path::{Path, PathBuf};
+use std::process::ExitCode;
+
+use generate::{Generator, Random};
+use library::{Reply, Row};
+
+/// So many requests of a fixed seed show every number by themselves.
+const GENERATED: usize = 20_000;
+/// The run ends after so many failures.
+const FAILURES: usize = 5;
+
+// ---------------------------------------------------------------------------------------------
+// What is due, and the comparison
+// ---------------------------------------------------------------------------------------------
+
+/// What the library must answer: the reply, and what the lent buffers hold before their zeros.
+struct Due {
+    reply: Reply,
+    rows: Vec<Row>,
+    text: Vec<u8>,
+}
+
+fn refused(number: usize, line: usize, field: usize) -> Due {
+    let length = 0;
+    Due {
+        reply: Reply {
+            number,
+            line,
+            field,
+            length,
+        },
+        rows: Vec::new(),
+        text: Vec::new(),
+    }
+}
+
+/// By the model: 1, then short buffers, then reading, then judging.
+fn due(request: &[u8], row_count: usize, text_length: usize) -> Due {
+    if request.len() > model::REQUEST_BYTES {
+        return refused(1, 0, 0);
+    }
+    if row_count < library::ROWS || text_length < library::TEXT {
+        return refused(7, 0, 0);
+    }
+    match model::judge(request) {
+        (
+            model::Reply::Refused {
+                number,
+                line,
+                field,
+            },
+            _,
+        ) => refused(number as usize, line, field),
+        (model::Reply::Text(text), rows) => Due {
+            reply: Reply {
+                number: 0,
+                line: 0,
+                field: 0,
+                length: text.len(),
+            },
+            rows: rows.iter().map(row).collect(),
+            text: text.into_bytes(),
+        },
+    }
+}
+
+fn row(numbers: &(u64, u64, u64)) -> Row {
+    Row {
+        node: numbers.0 as usize,
+        branch: numbers.1 as usize,
+        rank: numbers.2 as usize,
+    }
+}
+
+/// The first place at which a buffer is not `due` with zeros past it.
+fn first_wrong<T: PartialEq + Default>(due: &[T], buffer: &[T]) -> Option<usize> {
+    if buffer.len() < due.len() {
+        return Some(buffer.len());
+    }
+    let (held, past) = buffer.split_at(due.len());
+    let zero = T::default();
+    // Zeros all the way: the first is zero, and each is like the one before it.  This compares whole
+    // slices, which is quick; the place is looked for only where there is one.
+    let zeros = past.is_empty() || past[0] == zero && past[1..] == past[..past.len() - 1];
+    if held == due && zeros {
+        return None;
+    }
+    (0..buffer.len()).find(|place| buffer[*place] != *due.get(*place).unwrap_or(&zero))
+}
+
+/// What differs from what is due, if anything does.
+fn difference(due: &Due, reply: &Reply, rows: &[Row], text: &[u8]) -> Option<String> {
+    if *reply != due.reply {
+        return Some(format!("reply: due {:?}, got {reply:?}", due.reply));
+    }
+    if let Some(place) = first_wrong(&due.text, text) {
+        return Some(format!(
+            "byte {place} of the text: got {:?}",
+            text.get(place)
+        ));
+    }
+    first_wrong(&due.rows, rows).map(|place| format!("row {place}: got {:?}", rows.get(place)))
+}
+
+// ---------------------------------------------------------------------------------------------
+// The comparison itself can fail
+// ---------------------------------------------------------------------------------------------
+
+/// An answer as the buffers hold it.
+#[derive(Clone)]
+struct Held {
+    reply: Reply,
+    rows: Vec<Row>,
+    text: Vec<u8>,
+}
+
+/// The ways in which an answer that is due may be wrong in one place.
+fn altered(due: &Due, right: &Held) -> Vec<(&'static str, Held)> {
+    let mut all = Vec::new();
+    let mut alter = |name, change: &dyn Fn(&mut Held)| {
+        let mut held = right.clone();
+        change(&mut held);
+        all.push((name, held));
+    };
+    let (rows, bytes) = (due.rows.len(), due.text.len());
+    alter("number", &|held| held.reply.number += 1);
+    alter("line", &|held| held.reply.line += 1);
+    alter("field", &|held| held.reply.field += 1);
+    alter("length", &|held| held.reply.length += 1);
+    alter("the first byte past the text", &|held| {
+        held.text[bytes] = b'\n'
+    });
+    alter("the last byte of the buffer", &|held| {
+        *held.text.last_mut().unwrap() = 1
+    });
+    alter("a node past the rows", &|held| held.rows[rows].node = 1);
+    alter("a branch past the rows", &|held| held.rows[rows].branch = 1);
+    alter("the last rank of the buffer", &|held| {
+        held.rows.last_mut().unwrap().rank = 1
+    });
+    if bytes > 0 {
+        alter("the first byte", &|held| held.text[0] ^= 1);
+        alter("the last LF", &|held| held.text[bytes - 1] = 0);
+        alter("a byte less", &|held| held.reply.length -= 1);
+        alter("no text", &|held| held.text.fill(0));
+    }
+    if rows > 0 {
+        alter("a node", &|held| held.rows[rows - 1].node += 1);
+        alter("a branch", &|held| held.rows[0].branch += 1);
+        alter("a rank", &|held| held.rows[0].rank += 1);
+        alter("no rows", &|held| held.rows.fill(Row::default()));
+        alter("rows in another order", &|held| held.rows.swap(0, rows));
+    }
+    all
+}
+
+/// Right answers pass and altered ones don't; how many were tried.
+fn comparison_can_fail() -> Result<usize, String> {
+    let (t, row) = (cases::T, "row,1,0,1\nrow,0,0,");
+    let requests = [
+        format!("{t}make,0\n"),
+        format!("{t}check,0\n{row}2\n"),
+        format!("{t}check,0\n{row}1\n"),
+        format!("{t}play,x\nwait,499\nfire,0,1\nwait,1\nfire,0,1\n"),
+        format!("{}make,0\n", cases::D),
+        "bitml,2".to_string(),
+    ];
+    let mut tried = 0;
+    for request in requests {
+        let due = due(request.as_bytes(), library::ROWS, library::TEXT);
+        let mut right = Held {
+            reply: due.reply,
+            rows: due.rows.clone(),
+            text: due.text.clone(),
+        };
+        right.rows.resize(library::ROWS + 9, Row::default());
+        right.text.resize(library::TEXT + 9, 0);
+        if let Some(difference) = difference(&due, &right.reply, &right.rows, &right.text) {
+            return Err(format!("a right answer fails: {difference}"));
+        }
+        for (name, wrong) in altered(&due, &right) {
+            tried += 1;
+            if difference(&due, &wrong.reply, &wrong.rows, &wrong.text).is_none() {
+                return Err(format!("an altered answer passes: {name} of {request:?}"));
+            }
+        }
+    }
+    Ok(tried)
+}
+
+// ---------------------------------------------------------------------------------------------
+// The lent memory
+// ---------------------------------------------------------------------------------------------
+
+/// The memory that every call lends parts of.
+struct Memory {
+    rows: Vec<Row>,
+    text: Vec<u8>,
+    // As it was before the call.
+    rows_before: Vec<Row>,
+    text_before: Vec<u8>,
+}
+
+/// The parts that one call lends.
+#[derive(Clone, Debug)]
+struct Parts {
+    rows: Range<usize>,
+    text: Range<usize>,
+}
+
+/// Is everything outside the lent part as it was?
+fn kept_outside<T: PartialEq>(before: &[T], after: &[T], lent: &Range<usize>) -> bool {
+    before[..lent.start] == after[..lent.start] && before[lent.end..] == after[lent.end..]
+}
+
+impl Memory {
+    const ROWS: usize = library::ROWS + 200;
+    const TEXT: usize = library::TEXT + 5_000;
+
+    fn new() -> Memory {
+        Memory {
+            rows: vec![Row::default(); Memory::ROWS],
+            text: vec![0; Memory::TEXT],
+            rows_before: vec![Row::default(); Memory::ROWS],
+            text_before: vec![0; Memory::TEXT],
+        }
+    }
+
+    fn fill_with_garbage(&mut self, random: &mut Random) {
+        for bytes in self.text.chunks_mut(8) {
+            bytes.copy_from_slice(&random.next().to_le_bytes()[..bytes.len()]);
+        }
+        for row in &mut self.rows {
+            row.node = random.next() as usize;
+            row.branch = random.next() as usize;
+            row.rank = random.next() as usize;
+        }
+    }
+
+    /// Calls the library; an error if it wrote outside what it was lent.
+    fn judge(&mut self, request: &[u8], parts: &Parts) -> Result<Reply, String> {
+        self.rows_before.copy_from_slice(&self.rows);
+        self.text_before.copy_from_slice(&self.text);
+        let rows = &mut self.rows[parts.rows.clone()];
+        let text = &mut self.text[parts.text.clone()];
+        let reply = library::judge(request, rows, text);
+        if !kept_outside(&self.rows_before, &self.rows, &parts.rows) {
+            return Err("a row outside the lent ones was written".to_string());
+        }
+        if !kept_outside(&self.text_before, &self.text, &parts.text) {
+            return Err("a byte outside the lent text was written".to_string());
+        }
+        Ok(reply)
+    }
+}
+
+impl Parts {
+    /// Parts of these lengths, somewhere in the memory.
+    fn of(random: &mut Random, row_count: usize, text_length: usize) -> Parts {
+        let first_row = random.below(Memory::ROWS - row_count + 1);
+        let first_byte = random.below(Memory::TEXT - text_length + 1);
+        Parts {
+            rows: first_row..first_row + row_count,
+            text: first_byte..first_byte + text_length,
+        }
+    }
+
+    /// Long enough: most often just so, else longer than needed.
+    fn enough(random: &mut Random) -> Parts {
+        let (mut row_count, mut text_length) = (library::ROWS, library::TEXT);
+        if random.chance(30) {
+            row_count = random.between(library::ROWS, Memory::ROWS);
+        }
+        if random.chance(30) {
+            text_length = random.between(library::TEXT, Memory::TEXT);
+        }
+        Parts::of(random, row_count, text_length)
+    }
+
+    /// Too few rows, too short a text, or both.
+    fn short(random: &mut Random) -> Parts {
+        let (mut row_count, mut text_length) = (library::ROWS, library::TEXT);
+        let which = random.below(3);
+        if which != 0 {
+            let some = random.below(library::ROWS);
+            row_count = random.pick(&[0, 1, 511, some]);
+        }
+        if which != 1 {
+            let some = random.below(library::TEXT);
+            text_length = random.pick(&[0, 1, 180_223, some]);
+        }
+        Parts::of(random, row_count, text_length)
+    }
+}
+
+// ---------------------------------------------------------------------------------------------
+// The test
+// ---------------------------------------------------------------------------------------------
+
+/// What occurred.
+#[derive(Default)]
+struct Counts {
+    calls: usize,
+    short: usize,
+    garbage: usize,
+    refused_requests: [usize; 20],
+    refused_events: [usize; 20],
+    made: usize,
+    checked: usize,
+    frozen: usize,
+    plays: usize,
+    taken: usize,
+    most_rows: usize,
+    longest_text: usize,
+}
+
+impl Counts {
+    /// Counts an answer by what the library gave back.
+    fn add(&mut self, reply: &Reply, text: &str) {
+        self.calls += 1;
+        self.longest_text = self.longest_text.max(text.len());
+        if reply.number != 0 {
+            self.refused_requests[reply.number] += 1;
+            return;
+        }
+        let rows = text.lines().filter(|line| line.starts_with("row,")).count();
+        self.most_rows = self.most_rows.max(rows);
+        for line in text.lines() {
+            let fields: Vec<&str> = line.split(',').collect();
+            match fields[0] {
+                "taken" => self.taken += 1,
+                "refused" => self.refused_events[fields[1].parse().unwrap_or(0)] += 1,
+                "liquid" if rows > 0 => self.made += 1,
+                "liquid" => self.checked += 1,
+                "frozen" => self.frozen += 1,
+                "end" => self.plays += 1,
+                _ => {}
+            }
+        }
+    }
+
+    fn times(&self, number: usize) -> usize {
+        self.refused_requests[number] + self.refused_events[number]
+    }
+
+    /// What should have occurred and did not.
+    fn missing(&self) -> Vec<String> {
+        let mut missing: Vec<String> = (1..=19)
+            .filter(|number| self.times(*number) == 0)
+            .map(|number| format!("number {number}"))
+            .collect();
+        for (name, count) in [
+            ("liquid by make", self.made),
+            ("liquid by check", self.checked),
+            ("frozen", self.frozen),
+            ("a play", self.plays),
+            ("taken", self.taken),
+            ("short buffers", self.short),
+            ("garbage", self.garbage),
+        ] {
+            if count == 0 {
+                missing.push(name.to_string());
+            }
+        }
+        missing
+    }
+}
+
+struct Test {
+    memory: Memory,
+    random: Random,
+    counts: Counts,
+    failures: usize,
+}
+
+/// An answer as it stands in the report of a failure.
+fn shown(reply: &Reply, text: &[u8]) -> String {
+    let Reply {
+        number,
+        line,
+        field,
+        length,
+    } = reply;
+    format!("{number},{line},{field},{length} {}", text.escape_ascii())
+}
+
+impl Test {
+    /// Prints the request and both answers.
+    fn failed(&mut self, name: &str, what: &str, request: &[u8], due: &str, got: &str) {
+        self.failures += 1;
+        if self.failures <= FAILURES {
+            println!("FAILED: {name}: {what}");
+            println!(
+                "  request ({} bytes): {}",
+                request.len(),
+                request.escape_ascii()
+            );
+            println!("  due: {due}");
+            println!("  got: {got}");
+        }
+    }
+
+    /// One call, compared with the model; what `judge` would print, if the two agree.
+    fn call(&mut self, name: &str, request: &[u8], parts: &Parts) -> Option<String> {
+        if self.random.chance(30) {
+            self.memory.fill_with_garbage(&mut self.random);
+            self.counts.garbage += 1;
+        }
+        let due = due(request, parts.rows.len(), parts.text.len());
+        let answer = self.memory.judge(request, parts);
+        let rows = &self.memory.rows[parts.rows.clone()];
+        let text = &self.memory.text[parts.text.clone()];
+        let (reply, wrong) = match answer {
+            Ok(reply) => (reply, difference(&due, &reply, rows, text)),
+            Err(what) => (Reply::default(), Some(what)),
+        };
+        if let Some(what) = wrong {
+            let what = format!("lent {} rows and {} bytes: {what}", rows.len(), text.len());
+            let got = shown(&reply, &text[..reply.length.min(text.len())]);
+            self.failed(name, &what, request, &shown(&due.reply, &due.text), &got);
+            return None;
+        }
+        let printed = String::from_utf8_lossy(&text[..reply.length]).to_string();
+        self.counts.add(&reply, &printed);
+        if reply.number == 0 {
+            return Some(printed);
+        }
+        // The line is written to memory of its own: the buffers are all zero after a refusal.
+        let mut line = [b'?'; 80];
+        let line = library::refused_line(&reply, &mut line);
+        Some(String::from_utf8_lossy(line).to_string())
+    }
+
+    /// A request with buffers that are long enough; now and then short ones come first.
+    fn request(&mut self, name: &str, request: &[u8]) -> Option<String> {
+        if self.random.chance(5) {
+            let parts = Parts::short(&mut self.random);
+            self.counts.short += 1;
+            self.call(name, request, &parts);
+        }
+        let parts = Parts::enough(&mut self.random);
+        self.call(name, request, &parts)
+    }
+
+    /// A request whose answer is known by hand.
+    fn known(&mut self, name: &str, request: &[u8], due: &str) {
+        let printed = self.request(name, request);
+        self.compare(name, request, due, printed);
+    }
+
+    fn compare(&mut self, name: &str, request: &[u8], due: &str, printed: Option<String>) {
+        match printed {
+            Some(printed) if printed != due => {
+                self.failed(name, "the answer by hand", request, due, &printed)
+            }
+            _ => {}
+        }
+    }
+
+    fn by_hand(&mut self) -> usize {
+        let cases = cases::by_hand();
+        for case in &cases {
+            self.known(&case.name, case.request.as_bytes(), &case.due);
+        }
+        cases.len()
+    }
+
+    /// 1 comes before short buffers, and these before reading.
+    fn buffers_by_hand(&mut self) {
+        let long = vec![b'a'; model::REQUEST_BYTES + 1];
+        let make = format!("{}make,0\n", cases::T).into_bytes();
+        let requests: [&[u8]; 4] = [&long, &make, b"", b"nonsense"];
+        let lengths = [
+            (0, 0),
+            (0, library::TEXT),
+            (library::ROWS, 0),
+            (library::ROWS - 1, library::TEXT),
+            (library::ROWS, library::TEXT - 1),
+            (Memory::ROWS, library::TEXT - 1),
+            (library::ROWS - 1, Memory::TEXT),
+            (library::ROWS, library::TEXT),
+            (Memory::ROWS, Memory::TEXT),
+        ];
+        for request in requests {
+            for (row_count, text_length) in lengths {
+                let enough = row_count >= library::ROWS && text_length >= library::TEXT;
+                let due = match (request.len(), enough) {
+                    (65_537, _) => "refused,1,0,0\n",
+                    (_, false) => "refused,7,0,0\n",
+                    (0, _) => "refused,2,1,1\n",
+                    (8, _) => "refused,3,1,1\n",
+                    _ => "row,0,1,1\nrow,1,0,1\nliquid,0,2,1\n",
+                };
+                self.counts.short += usize::from(!enough);
+                let parts = Parts::of(&mut self.random, row_count, text_length);
+                let printed = self.call("buffers", request, &parts);
+                self.compare("buffers", request, due, printed);
+            }
+        }
+    }
+
+    /// Each sheet NAME.txt of the folder has its verdicts by participant in NAME.expected.
+    fn examples(&mut self, folder: &Path) -> std::io::Result<usize> {
+        let mut sheets: Vec<PathBuf> = std::fs::read_dir(folder)?
+            .filter_map(|entry| entry.ok().map(|entry| entry.path()))
+            .filter(|path| path.extension().is_some_and(|extension| extension == "txt"))
+            .collect();
+        sheets.sort();
+        for path in &sheets {
+            let name = path.display().to_string();
+            let sheet = std::fs::read_to_string(path)?;
+            let expected = std::fs::read_to_string(path.with_extension("expected"))?;
+            for (participant, verdict) in expected.lines().enumerate() {
+                let request = format!("{sheet}make,{participant}\n");
+                let printed = self.request(&name, request.as_bytes());
+                let last = printed.and_then(|lines| lines.lines().last().map(str::to_string));
+                self.compare(&name, request.as_bytes(), verdict, last);
+            }
+            // One participant more than there are verdicts.
+            let request = format!("{sheet}make,{}\n", expected.lines().count());
+            let line = sheet.lines().count() + 1;
+            self.known(&name, request.as_bytes(), &format!("refused,6,{line},2\n"));
+        }
+        Ok(sheets.len())
+    }
+
+    /// The rows that `make` printed are accepted by `check`, with the same last line.
+    fn made_rows_are_accepted(&mut self, name: &str, request: &[u8], printed: &str) {
+        let text = String::from_utf8_lossy(request);
+        let Some((sheet, participant)) = text.trim_end().rsplit_once("make,") else {
+            return;
+        };
+        let Some((rows, verdict)) = printed.trim_end().rsplit_once('\n') else {
+            return;
+        };
+        let check = format!("{sheet}check,{participant}\n{rows}\n");
+        self.known(
+            &format!("{name}, rows given back"),
+            check.as_bytes(),
+            &format!("{verdict}\n"),
+        );
+    }
+
+    fn generated(&mut self, seed: u64, count: usize) {
+        for (index, request) in Generator::new(seed).take(count).enumerate() {
+            let name = format!("request {index} of seed {seed}");
+            match self.request(&name, &request) {
+                Some(printed) if printed.starts_with("row,") => {
+                    self.made_rows_are_accepted(&name, &request, &printed)
+                }
+                _ => {}
+            }
+            if self.failures >= FAILURES {
+                println!("stopped after {} requests", index + 1);
+                return;
+            }
+        }
+    }
+
+    fn report(&self) {
+        let counts = &self.counts;
+        for number in 1..=19 {
+            let requests = counts.refused_requests[number];
+            let events = counts.refused_events[number];
+            println!("  {number:2}: {requests:6} requests {events:7} events");
+        }
+        println!(
+            "  liquid by make {}, by check {}, frozen {}, plays {}, taken {}",
+            counts.made, counts.checked, counts.frozen, counts.plays, counts.taken
+        );
+        println!(
+            "  {} calls, {} with short buffers, {} after garbage; most rows {}, longest text {}",
+            counts.calls, counts.short, counts.garbage, counts.most_rows, counts.longest_text
+        );
+    }
+}
+
+fn run(seed: u64, count: usize, folder: &Path) -> Result<usize, String> {
+    let tried = comparison_can_fail()?;
+    println!("{tried} altered answers were noticed");
+    let mut test = Test {
+        memory: Memory::new(),
+        random: Random::new(seed),
+        counts: Counts::default(),
+        failures: 0,
+    };
+    let by_hand = test.by_hand();
+    test.buffers_by_hand();
+    let examples = test
+        .examples(folder)
+        .map_err(|error| format!("{}: {error}", folder.display()))?;
+    if examples == 0 {
+        return Err(format!("no examples in {}", folder.display()));
+    }
+    println!("{by_hand} requests by hand, {examples} examples");
+    let mut missing = test.counts.missing();
+    // The generated requests must show every number by themselves where there are enough of them.
+    let before = std::mem::take(&mut test.counts);
+    test.generated(seed, count);
+    println!("{count} generated requests of seed {seed}:");
+    test.report();
+    if count >= GENERATED {
+        missing.extend(test.counts.missing());
+    }
+    if test.failures > 0 {
+        return Err(format!("{} failed", test.failures));
+    }
+    if !missing.is_empty() {
+        return Err(format!("never met: {}", missing.join(", ")));
+    }
+    Ok(before.calls + test.counts.calls)
+}
+
+fn main() -> ExitCode {
+    let arguments: Vec<String> = std::env::args().skip(1).collect();
+    let number = |place: usize, default: u64| match arguments.get(place) {
+        Some(text) => text.parse(),
+        None => Ok(default),
+    };
+    let (Ok(seed), Ok(count)) = (number(0, 1), number(1, GENERATED as u64)) else {
+        eprintln!("entry [SEED COUNT [EXAMPLES]]");
+        return ExitCode::FAILURE;
+    };
+    let folder = arguments.get(2).map_or("examples", String::as_str);
+    match run(seed, count as usize, Path::new(folder)) {
+        Ok(calls) => {
+            println!("{calls} calls compared, 0 failed");
+            ExitCode::SUCCESS
+        }
+        Err(what) => {
+            println!("the entry test failed: {what}");
+            ExitCode::FAILURE
+        }
+    }
+}

@@ -1,11 +1,10 @@
 -- What was read is what is judged. Assumes nothing.
-use mathlib.Core.Path.{_≡_, refl, sym, ap, ap₂, _∙_, subst}
+use mathlib.Core.Path.{_≡_, refl, sym, ap, _∙_, subst}
 use Prim.Native.Nat.{ℕ, _-_, _*_, _≤_, _<_}
 use native.Mathlib.Omega.{arith}
 use mathlib.Core.Bool.{Bool, true, false, cond}
-use mathlib.Core.List.{List, []}
-use lib.ListN.{length, take, replicate, getD, length-append}
-use lib.Seq.{length-take-le, take-append-seam}
+use mathlib.Core.List.{List}
+use lib.ListN.{length, replicate, getD, length-append}
 use lib.Dec.{eqb}
 use borrow.Author.Tests.{eqb-true, eq-eqb, ne-eqb, le-leb, lt-leb}
 use mathlib.Core.Logic.{by-cases}
@@ -29,18 +28,14 @@ use Rattle.rows.specs.Given.{RowsFit}
 use Rattle.replies.specs.declared.Reply.{Reply}
 use Rattle.exits.specs.Made.{flat, filled}
 use Rattle.exits.proofs.Buffer.{flat-length}
-use Rattle.texts.specs.Wrote.{Wrote}
-use Rattle.texts.specs.Text.{lineText, linesText}
-use Rattle.texts.proofs.Writing.{wrote-none}
 use Rattle.lent.specs.Structs.{structs}
 use Rattle.lent.proofs.Structs.{structs-filled, structs-cleared}
-use Rattle.bitml.specs.Answers.{refusedLine}
-use Rattle.replies.specs.Answer.{Answer, refused, printed, replyOf, numbersOf, bytesOf, Gives}
+use Rattle.replies.specs.Answer.{Answer, refused, printed, numbersOf, Gives}
 use Rattle.verdicts.specs.Judged.{madeFor, checkedFor}
 use Rattle.plays.specs.Values.{valuesOf}
 use Rattle.plays.specs.Events.{eventsOf}
 use Rattle.plays.specs.Played.{playedFor}
-use Rattle.checker.specs.Entry.{answerFor, judged, early, answerTo, placesOf, refusedIn, textOf}
+use Rattle.checker.specs.Entry.{answerFor, judged, early, answerTo, placesOf}
 
 -- ---- what is known of the table t and the row buffer u after reading
 
@@ -158,47 +153,3 @@ places-are s n m xs L w e k = ap (structs n) e ∙ go (eqb (early (length s) n m
         → structs n (numbersOf L (cond x (judged s (readRequest s)) (refused (early (length s) n m) 0 0))) ≡ placesOf n (cond x (judged s (readRequest s)) (refused (early (length s) n m) 0 0))
     go true q k = places (judged s (readRequest s)) n L w (early-few (length s) n m (eqb-true (early (length s) n m) 0 q)) k
     go false q k = structs-cleared n L
-
--- ---- the line of a refused request
-
-module _ (number l f : ℕ) (u : List ℕ) where
-  pub line-none : length u < 80 → Wrote u 0 (refusedIn (length u) number l f) u 0
-  unfolding refusedIn
-  line-none h = rw (lt-leb 80 (length u) h) (wrote-none u 0)
-
-  pub line-whole : 80 ≤ length u → (v : List ℕ) (r : ℕ) → Wrote u 0 (lineText (refusedLine number l f)) v r → Wrote u 0 (refusedIn (length u) number l f) v r
-  unfolding refusedIn
-  line-whole h v r w = rw (le-leb 80 (length u) h) w
-
--- ---- what is printed
-
-pub take-known : (r : ℕ) (u : List ℕ) → r ≤ length u → (r ≤ length u) × (r ≡ length (take r u))
-take-known r u h = (h, sym (length-take-le r u h))
-
-module _ (a : Answer) (m : ℕ) (r : Reply) (b : List ℕ) (told : r ≡ replyOf a) (wrote : b ≡ bytesOf m a) (long : length b ≡ m) where
-  within : (a : Answer) → length (bytesOf m a) ≡ m → replyOf a .length ≤ m
-  unfolding replyOf bytesOf
-  within (refused n l f) e = omega arith
-  within (printed ls R) e = omega (arith, e, length-append (linesText ls) (replicate (m - length (linesText ls)) 0))
-
-  pub answer-within : r .length ≤ length b
-  answer-within = let h = within a (ap (λ u. length u) (sym wrote) ∙ long) in omega (arith, h, ap (λ (q : Reply). q .length) told)
-
-  shown : (a : Answer) → replyOf a .number ≡ 0 → take (replyOf a .length) (bytesOf m a) ≡ textOf a
-  unfolding replyOf bytesOf textOf
-  shown (refused n l f) e = rw (eq-eqb n 0 e)
-  shown (printed ls R) e = take-append-seam (linesText ls) (replicate (m - length (linesText ls)) 0)
-
-  pub answer-shown : r .number ≡ 0 → take (r .length) b ≡ textOf a
-  answer-shown e = ap₂ (λ (q : Reply) u. take (q .length) u) told wrote ∙ shown a (ap (λ (q : Reply). q .number) (sym told) ∙ e)
-
-  declined : (a : Answer) → (replyOf a .number ≡ 0 → ⊥) → lineText (refusedLine (replyOf a .number) (replyOf a .line) (replyOf a .field)) ≡ textOf a
-  unfolding replyOf textOf
-  declined (refused n l f) e = rw (ne-eqb n 0 e)
-  declined (printed ls R) e = absurd (e refl)
-
-  pub refusal-shown : 80 ≤ length b → (r .number ≡ 0 → ⊥) → (v : List ℕ) (k : ℕ) → Wrote b 0 (refusedIn (length b) (r .number) (r .line) (r .field)) v k → take k v ≡ textOf a
-  unfolding refusedIn
-  refusal-shown h e v k w =
-      w .front ∙ ap (λ x. cond x (lineText (refusedLine (r .number) (r .line) (r .field))) []) (le-leb 80 (length b) h)
-      ∙ ap (λ (q : Reply). lineText (refusedLine (q .number) (q .line) (q .field))) told ∙ declined a (λ z. e (ap (λ (q : Reply). q .number) told ∙ z))

@@ -44,9 +44,9 @@ unfoldable pub placesOf : ℕ → Answer → List Row
 placesOf n (refused i l f) = replicate n noRow
 placesOf n (printed ls R) = map structOf R ++ replicate (n - length R) noRow
 
--- "Printed: `refused`,number,line,field"; or the lines of the answer. The numbers of refusals are 1 and up
+-- "Printed: `refused`,number,line,field"; or the lines of the answer
 unfoldable pub textOf : Answer → List ℕ
-textOf (refused n l f) = cond (eqb n 0) [] (lineText (refusedLine n l f))
+textOf (refused n l f) = lineText (refusedLine n l f)
 textOf (printed ls R) = linesText ls
 
 -- the line of a refused request: what is written into a buffer of n bytes, of which 80 are enough

@@ -45,6 +45,26 @@ cases =
     ∷ (D ++ letters "make,1\n", letters "frozen,1,0\n")
     -- ★9
     ∷ (R ++ letters "make,0\n", letters "row,0,2,1\nrow,1,0,1\nliquid,0,2,1\n")
+    -- ★10
+    ∷ (T ++ letters "play,x\nwait,499\nfire,0,1\nwait,1\nfire,0,1\n", letters "taken\nrefused,15,5,0\ntaken\ntaken\nend,500,0,0,100\n")
+    -- 14, 16, 17 and 19 as in the table of refusals
+    ∷ (
+      D ++ letters "play\nfire,9,0\nfire,0,0\nsign,0,0,0\nsign,0,0,0\nsign,1,0,0\nfire,0,0\n",
+      letters "refused,14,4,0\nrefused,16,5,0\ntaken\nrefused,16,7,0\ntaken\ntaken\nend,0,0,2,0\n",
+    )
+    ∷ (T ++ letters "play,x\ntell,0,0\nwait,4294967295\nwait,1\n", letters "refused,17,4,0\ntaken\nrefused,19,6,0\nend,4294967295,1,0,0\n")
+    -- 18; "a told secret of an old set" does not serve a renewed contract
+    ∷ (
+      R ++ letters "play,7\nrenew,0,0\ntell,0,0\nrenew,0,0,8\nfire,1,1\ntell,1,0\nfire,1,1\nfire,2,0\n",
+      letters "refused,18,4,0\ntaken\ntaken\nrefused,17,7,0\ntaken\ntaken\ntaken\nend,0,0,2,0\n",
+    )
+    -- "balance 7, weights 1 and 1 gives 3 and 4"
+    ∷ (
+      letters "bitml,2,1\ndef,7,0,0,c,1,0,0,s,2,1,c,1,0,0,w,0,1,c,1,0,0,w,1\nplay\nfire,0,0\nfire,1,0\nfire,2,0\n",
+      letters "taken\ntaken\ntaken\nend,0,0,3,4\n",
+    )
+    -- own only by "the one field `t`"
+    ∷ (letters "bitml,1,1\ndef,1,1,0,c,1,0,0,r,1,0,and,t,not,eq,add,v,0,k,1,sub,k,3,v,0,c,1,0,0,w,0\nmake,0\n", letters "frozen,0,0\n")
     -- "K 16 and 17"
     ∷ (letters "bitml,16,1\ndef,0,0,0,0,0,0,0,0,0,0,0,0,0,0,0,1,0,c,1,32768,0,w,0\nmake,15\n", letters "row,0,0,1\nliquid,15,1,1\n")
     ∷ (letters "bitml,17,1\n", letters "refused,4,1,2\n")
@@ -55,6 +75,7 @@ cases =
     ∷ (letters "bitml,02,1\n", letters "refused,3,1,2\n")
     ∷ (letters "bitml,2,1\ndef,1,0,1,0,c,1,0,0,r,2,0,0\n", letters "refused,5,2,13\n")
     ∷ (letters "bitml,2,1\ndef,1,1,0,c,1,0,0,w,2\n", letters "refused,6,2,10\n")
+    ∷ (letters "bitml,2,1\ndef,1,0,2,0,0,c,1,0,0,r,1,0,lt,v,1,k,5,c,1,0,0,w,0\n", letters "refused,6,2,16\n")
     ∷ (letters "bitml,2,1\ndef,1,1,0,c,1,0,0,s,1,0\n", letters "refused,8,2,11\n")
     ∷ (T ++ letters "make,0,0\n", letters "refused,9,3,3\n")
     ∷ (T ++ letters "check,0\nrow,0,1,1\nrow,0,1,1\n", letters "refused,10,5,0\n")

@@ -109,14 +109,14 @@ pub fn refused_line(number: usize, line: usize, field: usize, text: &mut [u8]) -
     put_refused(text, 0, number, line, field)
 }
 
-// The text that is printed, at the start of the buffer: how many bytes it has comes back.
+// The text that is printed, at the start of the buffer: how many bytes it has comes back. An answer has text, so none means refused.
 pub fn judge_text(s: &[u8], numbers: &mut [usize], text: &mut [u8]) -> usize
     requires { ⌜ 80 ≤ length (now text) ⌝ }
     ensures { λ r. ⌜ (r ≤ length (now (text .exit))) × (r ≡ length (take r (now (text .exit)))) ⌝ }
     ensures { λ r. ⌜ take r (now (text .exit)) ≡ textOf (answerTo (now (s .entry)) (length (now (numbers .entry)) / 3) (length (now (text .entry)))) ⌝ }
 {
     let r = judge_numbers(s, numbers, text);
-    if r.number == 0 {
+    if 0 < r.length {
         return r.length;
     }
     refused_line(r.number, r.line, r.field, text)

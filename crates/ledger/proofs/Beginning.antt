@@ -122,7 +122,18 @@ module _ (t vs : List ℕ) (ok : Ready t) (ev : length vs ≡ defEntryAt (held t
         value = s .small (λ k. (let z = zeros-at 256 k in omega arith));
         blank = s .blank (λ k e. zeros-at 256 k);
         fresh = λ k h. zeros-at 4096 k;
-        lengths = record { nodes = length-replicate 256 root; balances = length-replicate 256 total; set-numbers = length-replicate {A = ℕ} 256 0; alives = length-replicate 256 true; signeds = length-replicate {A = ℕ} 4096 0; definitions = length-replicate {A = ℕ} 32 0; counts = length-replicate 32 (length vs); values = s .values; states = s .states; paids = length-replicate {A = ℕ} 16 0 };
+        lengths = record {
+          nodes = length-replicate 256 root;
+          balances = length-replicate 256 total;
+          set-numbers = length-replicate {A = ℕ} 256 0;
+          alives = length-replicate 256 true;
+          signeds = length-replicate {A = ℕ} 4096 0;
+          definitions = length-replicate {A = ℕ} 32 0;
+          counts = length-replicate 32 (length vs);
+          values = s .values;
+          states = s .states;
+          paids = length-replicate {A = ℕ} 16 0;
+        };
       };
     }
 

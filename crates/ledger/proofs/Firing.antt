@@ -205,7 +205,18 @@ module _ (t : List ℕ) (l : Ledger) (c b q : ℕ) (ok : Ready t) (f : Fit t l) 
           value = f .value;
           blank = f .blank;
           fresh = f .fresh;
-          lengths = record { nodes = f .lengths .nodes; balances = f .lengths .balances; set-numbers = f .lengths .set-numbers; alives = simp length-set (f .lengths .alives); signeds = f .lengths .signeds; definitions = f .lengths .definitions; counts = f .lengths .counts; values = f .lengths .values; states = f .lengths .states; paids = simp length-set (f .lengths .paids) };
+          lengths = record {
+            nodes = f .lengths .nodes;
+            balances = f .lengths .balances;
+            set-numbers = f .lengths .set-numbers;
+            alives = simp length-set (f .lengths .alives);
+            signeds = f .lengths .signeds;
+            definitions = f .lengths .definitions;
+            counts = f .lengths .counts;
+            values = f .lengths .values;
+            states = f .lengths .states;
+            paids = simp length-set (f .lengths .paids);
+          };
         })
 
     pub w-taken-by : {p : ℕ} → p ≡ branchEntryAt (held t) q .arg → Does t l (fire c b) (withPaid l (set (l .alive) c false) (set (l .paid) p (getD (l .paid) p 0 + getD (l .balance) c 0)))

@@ -32,7 +32,18 @@ dying-fits c f = record {
   node = f .node;
   set = f .set;
   fresh = f .fresh;
-  lengths = record { nodes = f .lengths .nodes; balances = f .lengths .balances; set-numbers = f .lengths .set-numbers; alives = simp length-set (f .lengths .alives); signeds = f .lengths .signeds; definitions = f .lengths .definitions; counts = f .lengths .counts; values = f .lengths .values; states = f .lengths .states; paids = f .lengths .paids };
+  lengths = record {
+    nodes = f .lengths .nodes;
+    balances = f .lengths .balances;
+    set-numbers = f .lengths .set-numbers;
+    alives = simp length-set (f .lengths .alives);
+    signeds = f .lengths .signeds;
+    definitions = f .lengths .definitions;
+    counts = f .lengths .counts;
+    values = f .lengths .values;
+    states = f .lengths .states;
+    paids = f .lengths .paids;
+  };
 }
 
 -- the first n and one more
@@ -51,7 +62,18 @@ module _ (t : List ℕ) (l : Ledger) (n v i : ℕ) (h : Contracts t l) (room : l
     node = put-all (λ x. x < length (held t .nodes)) (l .node) (l .made) n (h .node) hn (omega (arith, h .lengths .nodes));
     set = put-all (λ x. x < l .sets) (l .set) (l .made) i (h .set) hi (omega (arith, h .lengths .set-numbers));
     fresh = λ k q. h .fresh k (omega arith);
-    lengths = record { nodes = simp length-set (h .lengths .nodes); balances = simp length-set (h .lengths .balances); set-numbers = simp length-set (h .lengths .set-numbers); alives = simp length-set (h .lengths .alives); signeds = h .lengths .signeds; definitions = h .lengths .definitions; counts = h .lengths .counts; values = h .lengths .values; states = h .lengths .states; paids = h .lengths .paids };
+    lengths = record {
+      nodes = simp length-set (h .lengths .nodes);
+      balances = simp length-set (h .lengths .balances);
+      set-numbers = simp length-set (h .lengths .set-numbers);
+      alives = simp length-set (h .lengths .alives);
+      signeds = h .lengths .signeds;
+      definitions = h .lengths .definitions;
+      counts = h .lengths .counts;
+      values = h .lengths .values;
+      states = h .lengths .states;
+      paids = h .lengths .paids;
+    };
   }
 
   pub pushed-are : firstOf (contractOf (pushed l n v i)) (l .made + 1) ≡ firstOf (contractOf l) (l .made) ++ (newContract n v i ∷ [])

@@ -162,7 +162,18 @@ module _ (t : List ℕ) (l : Ledger) (c b : ℕ) (vs : List ℕ) (q : ℕ) (ok :
         node = f .node;
         set = λ i h. (let z = f .set i h in omega arith);
         fresh = f .fresh;
-        lengths = record { nodes = f .lengths .nodes; balances = f .lengths .balances; set-numbers = f .lengths .set-numbers; alives = simp length-set (f .lengths .alives); signeds = f .lengths .signeds; definitions = simp length-set (f .lengths .definitions); counts = simp length-set (f .lengths .counts); values = f .lengths .values; states = f .lengths .states; paids = f .lengths .paids };
+        lengths = record {
+          nodes = f .lengths .nodes;
+          balances = f .lengths .balances;
+          set-numbers = f .lengths .set-numbers;
+          alives = simp length-set (f .lengths .alives);
+          signeds = f .lengths .signeds;
+          definitions = simp length-set (f .lengths .definitions);
+          counts = simp length-set (f .lengths .counts);
+          values = f .lengths .values;
+          states = f .lengths .states;
+          paids = f .lengths .paids;
+        };
       }
 
       new-fits : Contracts t B
@@ -214,7 +225,18 @@ module _ (t : List ℕ) (l : Ledger) (c b : ℕ) (vs : List ℕ) (q : ℕ) (ok :
               value = s .small (f .value);
               blank = s .blank (f .blank);
               fresh = new-fits .fresh;
-              lengths = let h = new-fits .lengths in record { nodes = h .nodes; balances = h .balances; set-numbers = h .set-numbers; alives = h .alives; signeds = h .signeds; definitions = h .definitions; counts = h .counts; values = s .values; states = s .states; paids = h .paids };
+              lengths = let h = new-fits .lengths in record {
+                nodes = h .nodes;
+                balances = h .balances;
+                set-numbers = h .set-numbers;
+                alives = h .alives;
+                signeds = h .signeds;
+                definitions = h .definitions;
+                counts = h .counts;
+                values = s .values;
+                states = s .states;
+                paids = h .paids;
+              };
             })
 
       renew-taken : (m : Ledger) → Stores B (l .sets) vs (length vs) m → Does t l (renewal c b vs) m

@@ -125,7 +125,21 @@ module _ (t : List ℕ) (l : Ledger) (c b q : ℕ) (ok : Ready t) (f : Fit t l) 
         r-taken : Does t l (fire c b) (pushed (dying l c) (branchEntryAt (held t) q .arg) (getD (l .balance) c 0) (getD (l .set) c 0))
         unfolding within
         r-taken = takes t l (fire c b) next r-asks (ap (λ n. leb n 256) counts ∙ le-leb (l .made + 1) 256 (omega arith)) refl r-view
-            (record { made = fits .made; sets = f .sets; time = f .time; taken = f .taken; deposits = deposits-same t l (fire c b) next ok f r-asks r-view refl; total = total-same t l (fire c b) next ok f r-asks r-view refl; node = fits .node; set = fits .set; count = f .count; value = f .value; blank = f .blank; fresh = fits .fresh; lengths = fits .lengths })
+            (record {
+              made = fits .made;
+              sets = f .sets;
+              time = f .time;
+              taken = f .taken;
+              deposits = deposits-same t l (fire c b) next ok f r-asks r-view refl;
+              total = total-same t l (fire c b) next ok f r-asks r-view refl;
+              node = fits .node;
+              set = fits .set;
+              count = f .count;
+              value = f .value;
+              blank = f .blank;
+              fresh = fits .fresh;
+              lengths = fits .lengths;
+            })
 
         pub r-taken-by : {n : ℕ} → n ≡ branchEntryAt (held t) q .arg → Does t l (fire c b) (pushed (dying l c) n (getD (l .balance) c 0) (getD (l .set) c 0))
         r-taken-by e = subst (λ n. Does t l (fire c b) (pushed (dying l c) n (getD (l .balance) c 0) (getD (l .set) c 0))) (sym e) r-taken

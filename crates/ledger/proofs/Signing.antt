@@ -165,7 +165,18 @@ module _ (t : List ℕ) (l : Ledger) (p c b : ℕ) (ok : Ready t) (f : Fit t l) 
               value = f .value;
               blank = f .blank;
               fresh = fresh;
-              lengths = record { nodes = f .lengths .nodes; balances = f .lengths .balances; set-numbers = f .lengths .set-numbers; alives = f .lengths .alives; signeds = simp length-set (f .lengths .signeds); definitions = f .lengths .definitions; counts = f .lengths .counts; values = f .lengths .values; states = f .lengths .states; paids = f .lengths .paids };
+              lengths = record {
+                nodes = f .lengths .nodes;
+                balances = f .lengths .balances;
+                set-numbers = f .lengths .set-numbers;
+                alives = f .lengths .alives;
+                signeds = simp length-set (f .lengths .signeds);
+                definitions = f .lengths .definitions;
+                counts = f .lengths .counts;
+                values = f .lengths .values;
+                states = f .lengths .states;
+                paids = f .lengths .paids;
+              };
             })
 
       pub sign-taken-by : {q r m : ℕ} → q ≡ branchNumber (held t) N b → r ≡ branchEntryAt (held t) q .signers → m ≡ 2 ^ p → (r / m % 2 ≡ 0 → ⊥) → getD (l .signed) (c * 16 + b) 0 / m % 2 ≡ 0

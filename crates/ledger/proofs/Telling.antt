@@ -90,5 +90,16 @@ module _ (t : List ℕ) (l : Ledger) (i j : ℕ) (ok : Ready t) (f : Fit t l) wh
               value = f .value;
               blank = λ x h. at-set (λ y. y ≡ 0 → getD (l .value) x 0 ≡ 0) (l .state) (i * 8 + j) x 2 0 (f .blank x) (λ _ q. absurd (omega arith)) h;
               fresh = f .fresh;
-              lengths = record { nodes = f .lengths .nodes; balances = f .lengths .balances; set-numbers = f .lengths .set-numbers; alives = f .lengths .alives; signeds = f .lengths .signeds; definitions = f .lengths .definitions; counts = f .lengths .counts; values = f .lengths .values; states = simp length-set (f .lengths .states); paids = f .lengths .paids };
+              lengths = record {
+                nodes = f .lengths .nodes;
+                balances = f .lengths .balances;
+                set-numbers = f .lengths .set-numbers;
+                alives = f .lengths .alives;
+                signeds = f .lengths .signeds;
+                definitions = f .lengths .definitions;
+                counts = f .lengths .counts;
+                values = f .lengths .values;
+                states = simp length-set (f .lengths .states);
+                paids = f .lengths .paids;
+              };
             })

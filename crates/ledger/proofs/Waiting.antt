@@ -33,4 +33,18 @@ module _ (t : List ℕ) (l : Ledger) (d : ℕ) (ok : Ready t) (f : Fit t l) (h :
   pub wait-taken : l .time + d ≤ 4294967295 → Does t l (wait d) (withTime l (l .time + d))
   unfolding within view depositsTaken
   wait-taken x = takes t l (wait d) (withTime l (l .time + d)) asked (le-leb (l .time + d) 4294967295 x) refl after-is
-      (record { made = f .made; sets = f .sets; time = x; taken = f .taken; deposits = f .deposits; total = f .total; node = f .node; set = f .set; count = f .count; value = f .value; blank = f .blank; fresh = f .fresh; lengths = f .lengths })
+      (record {
+        made = f .made;
+        sets = f .sets;
+        time = x;
+        taken = f .taken;
+        deposits = f .deposits;
+        total = f .total;
+        node = f .node;
+        set = f .set;
+        count = f .count;
+        value = f .value;
+        blank = f .blank;
+        fresh = f .fresh;
+        lengths = f .lengths;
+      })

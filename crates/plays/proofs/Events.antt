@@ -68,19 +68,3 @@ module _ (s : List ℕ) (people at : ℕ) (more : at < length s) (good : eventsA
 
     pub line-long : Bytes s → at + 7 ≤ e
     line-long b = event-long s people at v e b (sym (ap nextOf read) ∙ next)
-
--- There is one event for 7 bytes at the most
-up-few : (s : List ℕ) (people n at : ℕ) → Bytes s → 7 * length (eventsUpTo s people n at) ≤ length s - at
-unfolding eventsUpTo after
-up-few s people zero at b = omega arith
-up-few s people (suc n) at b = go (ltb at (length s)) refl (nextOf (eventAt s people at)) refl (λ e. up-few s people n e b)
-  where
-    go : (t : Bool) → ltb at (length s) ≡ t → (g : Got) → nextOf (eventAt s people at) ≡ g → ((e : ℕ) → 7 * length (eventsUpTo s people n e) ≤ length s - e)
-        → 7 * length (cond t (after (λ m p. []) g λ v e. eventOf s (eventAt s people at) ∷ eventsUpTo s people n e) []) ≤ length s - at
-    go true t (Value v e) i f = omega (arith, f e, event-long s people at v e b i, event-ahead s people at v e i)
-    go true t (Bad o p) i f = omega arith
-    go false t g i f = omega arith
-
-pub events-few : (s : List ℕ) (people at : ℕ) → Bytes s → 7 * length (eventsOf s people at) ≤ length s - at
-unfolding eventsOf
-events-few s people at b = up-few s people (length s - at) at b

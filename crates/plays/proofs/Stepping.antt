@@ -6,7 +6,7 @@ use native.Mathlib.Numerals.{add-one}
 use mathlib.Core.List.{List, [], _∷_}
 use lib.ListN.{length, getD, take}
 use lib.Seq.{ext-getD, length-take-le, getD-take}
-use Rattle.bitml.specs.Ledger.{Event}
+use Rattle.bitml.specs.Ledger.{Event, wait, sign, tell, fire, renew}
 use Rattle.bitml.specs.Limits.{limitedRefusal, limitedStep}
 use Rattle.bitml.specs.Answers.{takenLine, endLine, orRefused, endOf}
 use Rattle.sheets.specs.Ready.{Ready}
@@ -26,22 +26,17 @@ use Rattle.events.proofs.Sound.{Sound, event-sound}
 use Rattle.ledger.specs.declared.Ledger.{Ledger}
 use Rattle.ledger.specs.View.{view, liveOf}
 use Rattle.ledger.specs.Fit.{Fit}
-use Rattle.ledger.specs.Does.{Does}
+use Rattle.ledger.specs.Does.{Does, renewal}
 use Rattle.texts.specs.Text.{lineText}
 use Rattle.texts.specs.Wrote.{Wrote}
+use Rattle.plays.specs.Values.{Valued}
 use Rattle.plays.specs.Events.{eventOf, eventsOf}
 use Rattle.plays.specs.Played.{Line}
+use Rattle.plays.proofs.Reading.{values-are}
 use Rattle.plays.proofs.Events.{events-none, next-read, event-read, events-more, events-good, line-within, line-long}
 use Rattle.plays.proofs.Playing.{answer-most, playText, Leads, leads-all, leads-more, leads-end}
 
 -- ---- an event line
-
--- the position behind it, where it is one
-pub next-is : (x : read.Event) (r : ℕ) → nextOf x ≡ Value 0 r → (w e : ℕ) → nextOf x ≡ Value w e → r ≡ e
-next-is x r h w e k = let z : Value 0 r ≡ Value w e = sym h ∙ k in cc
-
-pub next-none : (x : read.Event) (r n p : ℕ) → nextOf x ≡ Bad n p → (w e : ℕ) → nextOf x ≡ Value w e → r ≡ e
-next-none x r n p h w e k = never n p w e (sym h ∙ k)
 
 module _ (s : List ℕ) (people at : ℕ) (x : read.Event) (l : Line s people at x) where
   sound : (y : read.Event) → x ≡ y → Sound s people at y
@@ -62,8 +57,38 @@ module _ (s : List ℕ) (people at : ℕ) (x : read.Event) (l : Line s people at
   pub no-event : {Q : Type 0} (n p : ℕ) → x ≡ line.Bad n p → Q
   no-event n p h = absurd (event-read s people at (l .more) (l .good) x (l .read) n p h)
 
-pub does-as : (t : List ℕ) (l : Ledger) (e f : Event) (r : Ledger) → f ≡ e → Does t l e r → Does t l f r
-does-as t l e f r h d = subst (λ x. Does t l x r) (sym h) d
+-- the event x has made of the ledger l the ledger m, and its line ends at q
+pub record Moved (s t : List ℕ) (l : Ledger) (x : read.Event) (m : Ledger) (q : ℕ) : Type 0 where
+  pub does : Does t l (eventOf s x) m
+  pub next : (w z : ℕ) → nextOf x ≡ Value w z → q ≡ z
+
+module _ (s t : List ℕ) (l : Ledger) (x : read.Event) (m : Ledger) (q : ℕ) where
+  moved-by : (y : read.Event) (e : Event) (r : Ledger) (f : ℕ) → x ≡ y → eventOf s y ≡ e → nextOf y ≡ Value 0 f → Does t l e r → m ≡ r → q ≡ f → Moved s t l x m q
+  moved-by y e r f h k n d a b =
+      record {
+        does = subst (λ p. Does t l p m) (sym (ap (eventOf s) h ∙ k)) (subst (λ p. Does t l e p) (sym a) d);
+        next = λ w z g. b ∙ (let c : Value 0 f ≡ Value w z = sym (ap nextOf h ∙ n) ∙ g in let i : f ≡ z = cc in i);
+      }
+
+  pub moved-wait : (d f : ℕ) (r : Ledger) → x ≡ line.Wait d f → Does t l (wait d) r → m ≡ r → q ≡ f → Moved s t l x m q
+  unfolding eventOf nextOf
+  moved-wait d f r h = moved-by (line.Wait d f) (wait d) r f h refl refl
+
+  pub moved-sign : (p c b f : ℕ) (r : Ledger) → x ≡ line.Sign p c b f → Does t l (sign p c b) r → m ≡ r → q ≡ f → Moved s t l x m q
+  unfolding eventOf nextOf
+  moved-sign p c b f r h = moved-by (line.Sign p c b f) (sign p c b) r f h refl refl
+
+  pub moved-tell : (i j f : ℕ) (r : Ledger) → x ≡ line.Tell i j f → Does t l (tell i j) r → m ≡ r → q ≡ f → Moved s t l x m q
+  unfolding eventOf nextOf
+  moved-tell i j f r h = moved-by (line.Tell i j f) (tell i j) r f h refl refl
+
+  pub moved-fire : (c b f : ℕ) (r : Ledger) → x ≡ line.Fire c b f → Does t l (fire c b) r → m ≡ r → q ≡ f → Moved s t l x m q
+  unfolding eventOf nextOf
+  moved-fire c b f r h = moved-by (line.Fire c b f) (fire c b) r f h refl refl
+
+  pub moved-renew : (c b v n f : ℕ) (r : Ledger) {u₀ u : List ℕ} → x ≡ line.Renew c b v n f → Valued s v n u₀ u → Does t l (renewal c b (take n u)) r → m ≡ r → q ≡ f → Moved s t l x m q
+  unfolding eventOf nextOf
+  moved-renew c b v n f r {u = u} h k = moved-by (line.Renew c b v n f) (renewal c b (take n u)) r f h (ap (λ vs. renew c b vs) (sym (values-are k))) refl
 
 -- the amounts paid to the participants
 pub paid-are : (xs : List ℕ) (K : ℕ) → K ≤ length xs → take K xs ≡ firstOf (λ p. getD xs p 0) K
@@ -128,17 +153,18 @@ module _ (s t : List ℕ) (from first : ℕ) (text₀ : List ℕ) (l₀ : Ledger
           go (Value w z) h = let k = f w z h in zero-first x w z h ∙ ap (Value 0) (sym k)
           go (Bad n p) h = absurd (next-read s (people t) at more (g .good) x rd n p h)
 
-      module _ (q : ℕ) (next : (w z : ℕ) → nextOf x ≡ Value w z → q ≡ z) where
+      module _ (m : Ledger) (q : ℕ) (mv : Moved s t l x m q) where
         pub goes-ahead : at < q
-        goes-ahead = line-within s (people t) at more (g .good) x rd 0 q (behind-is q next) .0
+        goes-ahead = line-within s (people t) at more (g .good) x rd 0 q (behind-is q (mv .next)) .0
 
-        pub goes-more : Bytes s → length s ≤ 65536 → first ≤ 100 → (m : Ledger) (v : List ℕ) (c : ℕ) → Does t l (eventOf s x) m
+        pub goes-more : Bytes s → length s ≤ 65536 → first ≤ 100 → (v : List ℕ) (c : ℕ)
             → Wrote text e (lineText (orRefused line (m .answer) takenLine)) v c → Goes s t from first text₀ l₀ v m q (line + 1) c
-        goes-more b few low m v c d w =
+        goes-more b few low v c w =
+            let d = mv .does in
             let S = sheetIn t in
             let P = view (people t) l in
             let y = eventOf s x in
-            let z = behind-is q next in
+            let z = behind-is q (mv .next) in
             let k = line-within s (people t) at more (g .good) x rd 0 q z in
             let j = line-long s (people t) at more (g .good) x rd 0 q z b in
             let w′ : Wrote text e (lineText (orRefused line (limitedRefusal S P y) takenLine)) v c = subst (λ n. Wrote text e (lineText (orRefused line n takenLine)) v c) (d .answer) w in

@@ -73,42 +73,6 @@ pub fn values(s: &[u8], from: usize, n: usize, out: &mut [usize])
     }
 }
 
-// The position behind the line of an event that was read.
-fn behind(v: Event) -> usize
-    ensures { λ r. ⌜ ((w e : ℕ) → nextOf v ≡ read w e → r ≡ e) ⌝ }
-{
-    match v {
-        Event::Wait(_, e) => e,
-        Event::Sign(_, _, _, e) => e,
-        Event::Tell(_, _, e) => e,
-        Event::Fire(_, _, e) => e,
-        Event::Renew(_, _, _, _, e) => e,
-        Event::Bad(_, p) => p,
-    }
-}
-
-// Event v, whose line starts at `at`, on the ledger.
-fn step(l: Ledger, v: Event, s: &[u8], at: usize, t: &[usize], x: &[usize]) -> Ledger
-    requires { ⌜ Ready (now t) ⌝ }
-    requires { ⌜ Indexed (held (now t)) (now x) ⌝ }
-    requires { ⌜ Fit (now t) l ⌝ }
-    requires { ⌜ Line (now s) (people (now t)) at v ⌝ }
-    ensures { λ r. ⌜ Does (now (t .entry)) l (eventOf (now (s .entry)) v) r ⌝ }
-{
-    match v {
-        Event::Wait(d, _) => l.wait(t, d),
-        Event::Sign(p, c, b, _) => l.sign(t, x, p, c, b),
-        Event::Tell(i, j, _) => l.tell(t, i, j),
-        Event::Fire(c, b, _) => l.fire(t, x, c, b),
-        Event::Renew(c, b, from, n, _) => {
-            let mut vs = [0usize; Sheet::SECRETS];
-            values(s, from, n, &mut vs);
-            l.renew(t, x, c, b, &vs[..n])
-        }
-        Event::Bad(_, _) => l,
-    }
-}
-
 // The last line: time, live contracts, paid by participant.
 fn end(l: Ledger, at: usize, t: &[usize], text: &mut [u8]) -> usize
     requires { ⌜ Ready (now t) ⌝ }
@@ -148,9 +112,32 @@ fn play(
     let mut e = 0;
     while at < s.len() {
         let v = event_at(s, at, k);
-        now = step(now, v, s, at, t, x);
+        match v {
+            Event::Wait(d, next) => {
+                now = now.wait(t, d);
+                at = next;
+            }
+            Event::Sign(p, c, b, next) => {
+                now = now.sign(t, x, p, c, b);
+                at = next;
+            }
+            Event::Tell(i, j, next) => {
+                now = now.tell(t, i, j);
+                at = next;
+            }
+            Event::Fire(c, b, next) => {
+                now = now.fire(t, x, c, b);
+                at = next;
+            }
+            Event::Renew(c, b, values_at, n, next) => {
+                let mut vs = [0usize; Sheet::SECRETS];
+                values(s, values_at, n, &mut vs);
+                now = now.renew(t, x, c, b, &vs[..n]);
+                at = next;
+            }
+            Event::Bad(_, _) => return e,
+        }
         e = put_answer(text, e, now.answer, line);
-        at = behind(v);
         line += 1;
     }
     end(now, e, t, text)

@@ -22,10 +22,6 @@ module _ (t : List ℕ) where
   unfolding held
   held-defs = firstOf-length (defIn t) (getD t 1 0)
 
-  pub held-listed : length (held t .listed) ≡ getD t 4 0
-  unfolding held
-  held-listed = firstOf-length (listedIn t) (getD t 4 0)
-
   pub held-cells : length (held t .cells) ≡ getD t 5 0
   unfolding held
   held-cells = firstOf-length (cellIn t) (getD t 5 0)

@@ -112,10 +112,6 @@ module _ (E : Entries) where
   unfolding branchCount branchNumber branchNumbers
   branch-node n i h = eqb-true _ _ (all-in (branchNumbers E n) i (keep-all (λ b. eqb (branchEntryAt E b .node) n) (below (length (E .branches)))) h)
 
-  pub branches-few : (n : ℕ) → branchCount E n ≤ length (E .branches)
-  unfolding branchCount branchNumbers
-  branches-few n = omega (arith, keep-le (λ b. eqb (branchEntryAt E b .node) n) (below (length (E .branches))), length-up 0 (length (E .branches)))
-
   pub part-small : (b i : ℕ) → i < partCount E b → partNumber E b i < length (E .nodes)
   unfolding partCount partNumber partNumbers
   part-small b i h =
@@ -135,10 +131,6 @@ module _ (E : Entries) where
 
   -- ---- actions
 
-  pub action-of : (b : ℕ) → branchOf E b .action ≡ actionOf E b (branchEntryAt E b .kind)
-  unfolding branchOf
-  action-of b = refl
-
   module _ (b : ℕ) where
     pub parts-none : branchEntryAt E b .kind ≡ 0 → parts (branchOf E b .action) ≡ []
     unfolding branchOf actionOf
@@ -152,19 +144,7 @@ module _ (E : Entries) where
     unfolding branchOf actionOf
     parts-reveal e = rw e
 
-    -- and what a step by the branch leads to
-    pub next-none : (K : ℕ) → branchEntryAt E b .kind ≡ 0 → next (sheetOf K E) (branchOf E b .action) ≡ []
-    unfolding branchOf actionOf
-    next-none K e = rw e
-
-    pub next-split : (K : ℕ) → branchEntryAt E b .kind ≡ 1 → next (sheetOf K E) (branchOf E b .action) ≡ partNumbers E b
-    unfolding branchOf actionOf
-    next-split K e = rw e (map-map (λ q. q .node) (partOf E) (partNumbers E b) ∙ map-same (partNumbers E b))
-
-    pub next-reveal : (K : ℕ) → branchEntryAt E b .kind ≡ 2 → next (sheetOf K E) (branchOf E b .action) ≡ branchEntryAt E b .arg ∷ []
-    unfolding branchOf actionOf
-    next-reveal K e = rw e
-
+    -- and what a renewal leads to
     pub next-renewal : (K : ℕ) → branchEntryAt E b .kind ≡ 3 → branchEntryAt E b .arg < length (E .defs) → next (sheetOf K E) (branchOf E b .action) ≡ defEntryAt E (branchEntryAt E b .arg) .root ∷ []
     unfolding branchOf actionOf
     next-renewal K e h = rw e (ap (λ n. n ∷ []) (root-is K E (branchEntryAt E b .arg) h))

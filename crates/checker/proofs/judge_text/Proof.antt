@@ -1,6 +1,6 @@
 use native.Mathlib.Omega.{arith}
 use Rattle.texts.proofs.Writing.{wrote-within}
-use Rattle.checker.proofs.Entry.{take-known, answer-within, answer-shown, refusal-shown}
+use Rattle.checker.proofs.Printing.{take-known, answer-within, answer-says, answer-shown, refusal-shown}
 use borrow.Author.Needs.{needs}
 use Rattle.checker.proofs.judge_text.Statement.{statement}
 use Rattle.checker.proofs.judge_text.Tie as tie
@@ -21,7 +21,7 @@ same-length-2 c = search needs
 returns : tie.Need-returns
 returns c =
     let e = c .before .before .before .before .before .before .judge-numbers .ensures in
-    (take-known _ _ (answer-within _ _ _ _ (e .0) (e .1 .1) (omega arith)), answer-shown _ _ _ _ (e .0) (e .1 .1) (omega arith) (c .if1 .taken))
+    (take-known _ _ (answer-within _ _ _ _ (e .0) (e .1 .1) (omega arith)), answer-shown _ _ _ _ (e .0) (e .1 .1) (omega arith) (omega arith))
 
 -- src/lib.rt:121:5
 refused-line-requires : tie.Need-refused-line-requires
@@ -40,7 +40,7 @@ returns-2 : tie.Need-returns-2
 returns-2 c =
     let e = c .before .before .before .before .before .before .before .before .before .before .judge-numbers .ensures in
     let w = c .before .before .refused-line .ensures in
-    (take-known _ _ (wrote-within w (omega arith)), refusal-shown _ _ _ _ (e .0) (e .1 .1) (omega arith) (omega arith) (c .before .before .before .before .if1 .left) _ _ w)
+    (take-known _ _ (wrote-within w (omega arith)), refusal-shown _ _ _ _ (e .0) (e .1 .1) (omega arith) (answer-says _ _ _) (omega arith) (omega arith) _ _ w)
 
 pub judge-text-spec : {M : Type 1} → statement M
 judge-text-spec =

@@ -1,6 +1,6 @@
 use native.Mathlib.Omega.{arith}
 use borrow.Author.Needs.{needs}
-use Rattle.checker.proofs.Entry.{line-none, line-whole}
+use Rattle.checker.proofs.Printing.{line-none, line-whole}
 use Rattle.checker.proofs.refused_line.Statement.{statement}
 use Rattle.checker.proofs.refused_line.Tie as tie
 

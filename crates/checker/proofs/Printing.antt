@@ -1,0 +1,140 @@
+-- What is printed is the text of the answer, or the line of the refusal. Assumes nothing.
+use mathlib.Core.Path.{_≡_, refl, sym, ap, ap₂, _∙_, subst}
+use Prim.Native.Nat.{ℕ, _-_, _≤_, _<_, _+_}
+use native.Mathlib.Omega.{arith}
+use mathlib.Core.Bool.{Bool, true, false, cond}
+use mathlib.Core.List.{List, [], _∷_, _++_, map, append-nil}
+use lib.ListN.{length, take, replicate, length-append}
+use lib.Seq.{length-take-le, take-append-seam}
+use lib.Dec.{eqb}
+use mathlib.Core.Option.{Option}
+use borrow.Author.Tests.{le-leb, lt-leb}
+use Rattle.bitml.specs.Rows as bitml
+use Rattle.tables.specs.SheetOf.{sheetOf, defEntryAt}
+use Rattle.replies.specs.declared.Reply.{Reply}
+use Rattle.texts.specs.Wrote.{Wrote}
+use Rattle.texts.specs.Text.{lineText, linesText, fields, line}
+use Rattle.texts.proofs.Writing.{wrote-none}
+use Rattle.bitml.specs.Answers.{refusedLine, Line, rowLine, liquidLine, frozenLine, takenLine, endLine, liquidBy, madeLines, eventLines, endOf, playLines}
+use Rattle.replies.specs.Answer.{Answer, refused, printed, replyOf, bytesOf}
+use Rattle.verdicts.specs.Judged.{madeFor, checkedFor, rowsOfVerdict, faultFor}
+use Rattle.bitml.specs.Sheet.{Sheet}
+use Rattle.bitml.specs.Ledger.{Event, stipulated}
+use Rattle.bitml.specs.Limits.{answers, limitedPlay}
+use Rattle.plays.specs.Values.{valuesOf}
+use Rattle.plays.specs.Events.{eventsOf}
+use Rattle.plays.specs.Played.{playedFor}
+use Rattle.bitml.specs.Rule.{Verdict, liquid, frozen, make}
+use Rattle.texts.proofs.Texts.{lines-append}
+use Rattle.bitml.specs.Rows.{check}
+use Rattle.reader.specs.Request.{Reading, request, readRequest}
+use Rattle.reader.specs.Request.{refused as unread}
+use Rattle.reader.specs.Request.{make as making, check as checking, play as playing}
+use Rattle.checker.specs.Entry.{answerFor, judged, early, answerTo, refusedIn, textOf}
+
+-- ---- the line of a refused request
+
+module _ (number l f : ℕ) (u : List ℕ) where
+  pub line-none : length u < 80 → Wrote u 0 (refusedIn (length u) number l f) u 0
+  unfolding refusedIn
+  line-none h = rw (lt-leb 80 (length u) h) (wrote-none u 0)
+
+  pub line-whole : 80 ≤ length u → (v : List ℕ) (r : ℕ) → Wrote u 0 (lineText (refusedLine number l f)) v r → Wrote u 0 (refusedIn (length u) number l f) v r
+  unfolding refusedIn
+  line-whole h v r w = rw (le-leb 80 (length u) h) w
+
+-- ---- what is printed
+
+-- an answer is a refusal, or has a last line
+pub data Says : Answer → Type 0 where
+  refusal : (n l f : ℕ) → Says (refused n l f)
+  lines : (ls : List Line) (l : Line) (R : List bitml.Row) → Says (printed (ls ++ (l ∷ [])) R)
+
+made-says : (s : Sheet) (p : ℕ) → Says (madeFor s p)
+unfolding madeFor madeLines rowsOfVerdict
+made-says s p = go (make s p)
+  where
+    go : (v : Verdict) → Says (printed (madeLines s p v) (rowsOfVerdict v))
+    go (liquid R) = lines (map rowLine R) (liquidBy s p R) R
+    go (frozen n) = lines [] (frozenLine p n) []
+
+checked-says : (s : Sheet) (p : ℕ) (R : List bitml.Row) → Says (checkedFor s p R)
+unfolding checkedFor faultFor
+checked-says s p R = go (eqb (check s p R .number) 0)
+  where
+    go : (x : Bool) → Says (cond x (printed (liquidBy s p R ∷ []) R) (refused (check s p R .number) (length (s .defs) + 2 + check s p R .place) 0))
+    go true = lines [] (liquidBy s p R) R
+    go false = refusal (check s p R .number) (length (s .defs) + 2 + check s p R .place) 0
+
+played-says : (s : Sheet) (vs : List (Option ℕ)) (es : List Event) → Says (playedFor s vs es)
+unfolding playedFor playLines
+played-says s vs es = lines (eventLines (length (s .defs) + 3) (answers s (stipulated s vs) es)) (endOf (limitedPlay s (stipulated s vs) es)) []
+
+judged-says : (s : List ℕ) (w : Reading) → Says (judged s w)
+unfolding judged answerFor
+judged-says s (request K E (making p)) = made-says (sheetOf K E) p
+judged-says s (request K E (checking p R)) = checked-says (sheetOf K E) p R
+judged-says s (request K E (playing v e)) = played-says (sheetOf K E) (valuesOf s v (defEntryAt E 0 .secrets)) (eventsOf s K e)
+judged-says s (unread n l f) = refusal n l f
+
+pub answer-says : (s : List ℕ) (n m : ℕ) → Says (answerTo s n m)
+unfolding answerTo
+answer-says s n m = go (eqb (early (length s) n m) 0)
+  where
+    go : (x : Bool) → Says (cond x (judged s (readRequest s)) (refused (early (length s) n m) 0 0))
+    go true = judged-says s (readRequest s)
+    go false = refusal (early (length s) n m) 0 0
+
+line-some : (word ns : List ℕ) → 0 < length (line word ns)
+unfolding line
+line-some word ns =
+    let e : length (line word ns) ≡ length (word ++ fields ns) + 1 = length-append (word ++ fields ns) (10 ∷ []) in
+    omega (arith, e)
+
+text-some : (l : Line) → 0 < length (lineText l)
+unfolding lineText
+text-some (rowLine r) = line-some _ _
+text-some (liquidLine p n k) = line-some _ _
+text-some (frozenLine p n) = line-some _ _
+text-some (refusedLine n l f) = line-some _ _
+text-some takenLine = line-some _ _
+text-some (endLine t n ps) = line-some _ _
+
+one-line : (l : Line) → linesText (l ∷ []) ≡ lineText l
+unfolding linesText
+one-line l = append-nil (lineText l)
+
+lines-some : (ls : List Line) (l : Line) → 0 < length (linesText (ls ++ (l ∷ [])))
+lines-some ls l =
+    let e : linesText (ls ++ (l ∷ [])) ≡ linesText ls ++ lineText l = lines-append ls (l ∷ []) ∙ ap (λ xs. linesText ls ++ xs) (one-line l) in
+    omega (arith, text-some l, ap (λ xs. length xs) e, length-append (linesText ls) (lineText l))
+
+pub take-known : (r : ℕ) (u : List ℕ) → r ≤ length u → (r ≤ length u) × (r ≡ length (take r u))
+take-known r u h = (h, sym (length-take-le r u h))
+
+module _ (a : Answer) (m : ℕ) (r : Reply) (b : List ℕ) (told : r ≡ replyOf a) (wrote : b ≡ bytesOf m a) (long : length b ≡ m) where
+  within : (a : Answer) → length (bytesOf m a) ≡ m → replyOf a .length ≤ m
+  unfolding replyOf bytesOf
+  within (refused n l f) e = omega arith
+  within (printed ls R) e = omega (arith, e, length-append (linesText ls) (replicate (m - length (linesText ls)) 0))
+
+  pub answer-within : r .length ≤ length b
+  answer-within = let h = within a (ap (λ u. length u) (sym wrote) ∙ long) in omega (arith, h, ap (λ (q : Reply). q .length) told)
+
+  pub answer-shown : 0 < r .length → take (r .length) b ≡ textOf a
+  unfolding replyOf bytesOf textOf
+  answer-shown h = ap₂ (λ (q : Reply) u. take (q .length) u) told wrote ∙ go a (subst (λ (q : Reply). 0 < q .length) told h)
+    where
+      go : (a : Answer) → 0 < replyOf a .length → take (replyOf a .length) (bytesOf m a) ≡ textOf a
+      go (refused n l f) h = absurd (omega (arith, h))
+      go (printed ls R) h = take-append-seam (linesText ls) (replicate (m - length (linesText ls)) 0)
+
+  pub refusal-shown : Says a → 80 ≤ length b → r .length ≤ 0 → (v : List ℕ) (k : ℕ) → Wrote b 0 (refusedIn (length b) (r .number) (r .line) (r .field)) v k → take k v ≡ textOf a
+  unfolding refusedIn replyOf textOf
+  refusal-shown y h e v k w =
+      w .front ∙ ap (λ x. cond x (lineText (refusedLine (r .number) (r .line) (r .field))) []) (le-leb 80 (length b) h)
+      ∙ ap (λ (q : Reply). lineText (refusedLine (q .number) (q .line) (q .field))) told ∙ go a y (subst (λ (q : Reply). q .length ≤ 0) told e)
+    where
+      go : (a : Answer) → Says a → replyOf a .length ≤ 0 → lineText (refusedLine (replyOf a .number) (replyOf a .line) (replyOf a .field)) ≡ textOf a
+      go a (refusal n l f) h = refl
+      go a (lines ls l R) h = absurd (omega (arith, h, lines-some ls l))

@@ -17,6 +17,7 @@ mod library;
 #[path = "../tests/model/model.rs"]
 mod model;
 
+use std::collections::BTreeMap;
 use std::hint::black_box;
 use std::process::{Command, ExitCode};
 use std::time::{Duration, Instant};
@@ -173,6 +174,9 @@ fn requests() -> Vec<(&'static str, String)> {
         ("smallest", format!("{}make,0\n", cases::T)),
         ("largest sheet, make", make),
         ("largest sheet, check", format!("{sheet}check,0\n{rows}")),
+        // Refused at the last field that is read: what the two above take before they judge.
+        ("make, read only", format!("{sheet}make,16\n")),
+        ("check, read only", format!("{sheet}check,0\n{rows}x\n")),
         ("mixed events", mixed_events()),
         (
             "9,350 waits",
@@ -280,13 +284,25 @@ fn bench() -> Result<(), String> {
         "{:24} {:>7} {:>7} {:>7} {:>10} {:>10} {:>7} {:>7}",
         "request", "bytes", "lines", "taken", "library", "model", "ratio", "runs"
     );
+    let mut found = BTreeMap::new();
     for (name, request) in requests() {
         let request = request.as_bytes();
         let (library, model, runs) = race(request).map_err(|what| format!("{name}: {what}"))?;
+        found.insert(name, (library, model));
         let (bytes, (lines, taken)) = (request.len(), lines(request));
         let ratio = library / model;
         println!(
             "{name:24} {bytes:7} {lines:7} {taken:7} {library:10.1} {model:10.1} {ratio:7.2} {runs:7}"
+        );
+    }
+    for (whole, read) in [
+        ("largest sheet, make", "make, read only"),
+        ("largest sheet, check", "check, read only"),
+    ] {
+        let (library, model) = (found[whole].0 - found[read].0, found[whole].1 - found[read].1);
+        println!(
+            "{whole}, without the reading: library {library:.1}, model {model:.1}, ratio {:.2}",
+            library / model
         );
     }
     let mut buffers = Buffers::new();

@@ -31,7 +31,7 @@ static long load(const char *name)
 static void answer(const char *name, size_t length)
 {
     hurkoxel_reply reply = hurkoxel_judge(request, length, rows, HURKOXEL_ROWS, text, sizeof text);
-    if (reply.number != 0) {
+    if (reply.length == 0) {
         /* The lent text is all zero now; the line is written to a small buffer of its own. */
         uint8_t line[HURKOXEL_LINE_BYTES];
         size_t written = hurkoxel_refused_line(reply.number, reply.line, reply.field, line, sizeof line);

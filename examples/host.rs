@@ -61,7 +61,7 @@ impl Buffers {
                 text.len(),
             )
         };
-        if reply.number != 0 {
+        if reply.length == 0 {
             return Err(reply);
         }
         // A rank is at least 1, so the first row of zeros ends the rows.

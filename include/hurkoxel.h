@@ -1,7 +1,7 @@
 /* Hurkoxel: a liquidity checker for BitML contracts, as a static library.
  *
  * Link target/staticlib/libchecker.a (made by `rt staticlib checker`, for x86-64 Linux). The library allocates nothing
- * and keeps nothing between calls; its tables stand on the caller's stack (`bash bench/run` tells how much that takes).
+ * and keeps nothing between calls; its tables stand on the caller's stack, for which 768 KiB are enough.
  * Calls from several threads are independent as long as each lends buffers of its own. What is said here in words of
  * replies and buffers is proved of the code as equations (docs/PROOFS.md).
  */
@@ -27,9 +27,9 @@ typedef struct {
     size_t node, branch, rank;
 } hurkoxel_row;
 
-/* number 0: answered; `length` bytes of text were written, line and field are 0.
- * number 1 to 13: the request was refused at this line and field (both from 1; field 0 from number 10 up; line 0 and
- * field 0 where the request is too long or a buffer too short), and length is 0. docs/FORMAT.md has the table. */
+/* length not 0: answered; so many bytes of text were written, and number, line and field are 0.
+ * length 0: the request was refused by this number (1 to 13), at this line and field (both from 1; field 0 from number 10 up; line 0 and
+ * field 0 where the request is too long or a buffer too short). docs/FORMAT.md has the table. */
 typedef struct {
     size_t number, line, field, length;
 } hurkoxel_reply;
@@ -63,7 +63,7 @@ hurkoxel_reply hurkoxel_judge(const uint8_t *request, size_t request_length,
                               uint8_t *text, size_t text_length);
 
 /* Writes the line that `judge` prints for a refused request, `refused,number,line,field` and LF, to the first bytes of
- * text and answers its length. Lend at least 80 bytes. */
+ * text and answers its length. With fewer than 80 bytes lent it writes nothing and answers 0. */
 size_t hurkoxel_refused_line(size_t number, size_t line, size_t field,
                              uint8_t *text, size_t text_length);
 

@@ -4,8 +4,8 @@ use Prim.Native.Nat.{ℕ, _-_, _≤_, _<_, _+_}
 use native.Mathlib.Omega.{arith}
 use mathlib.Core.Bool.{Bool, true, false, cond}
 use mathlib.Core.List.{List, [], _∷_, _++_, map, append-nil}
-use lib.ListN.{length, take, replicate, length-append}
-use lib.Seq.{length-take-le, take-append-seam}
+use lib.ListN.{length, take, drop, replicate, length-append}
+use lib.Seq.{length-take-le, take-append-seam, drop-append-seam}
 use lib.Dec.{eqb}
 use mathlib.Core.Option.{Option}
 use borrow.Author.Tests.{le-leb, lt-leb}
@@ -14,7 +14,7 @@ use Rattle.tables.specs.SheetOf.{sheetOf, defEntryAt}
 use Rattle.replies.specs.declared.Reply.{Reply}
 use Rattle.texts.specs.Wrote.{Wrote}
 use Rattle.texts.specs.Text.{lineText, linesText, fields, line}
-use Rattle.texts.proofs.Writing.{wrote-none}
+use Rattle.texts.proofs.Writing.{wrote-none, drop-zeros}
 use Rattle.bitml.specs.Answers.{refusedLine, Line, rowLine, liquidLine, frozenLine, takenLine, endLine, liquidBy, madeLines, eventLines, endOf, playLines}
 use Rattle.replies.specs.Answer.{Answer, refused, printed, replyOf, bytesOf}
 use Rattle.verdicts.specs.Judged.{madeFor, checkedFor, rowsOfVerdict, faultFor}
@@ -30,7 +30,7 @@ use Rattle.bitml.specs.Rows.{check}
 use Rattle.reader.specs.Request.{Reading, request, readRequest}
 use Rattle.reader.specs.Request.{refused as unread}
 use Rattle.reader.specs.Request.{make as making, check as checking, play as playing}
-use Rattle.checker.specs.Entry.{answerFor, judged, early, answerTo, refusedIn, textOf}
+use Rattle.checker.specs.Entry.{answerFor, judged, early, answerTo, refusedIn, textIn}
 
 -- ---- the line of a refused request
 
@@ -121,20 +121,33 @@ module _ (a : Answer) (m : ℕ) (r : Reply) (b : List ℕ) (told : r ≡ replyOf
   pub answer-within : r .length ≤ length b
   answer-within = let h = within a (ap (λ u. length u) (sym wrote) ∙ long) in omega (arith, h, ap (λ (q : Reply). q .length) told)
 
-  pub answer-shown : 0 < r .length → take (r .length) b ≡ textOf a
-  unfolding replyOf bytesOf textOf
+  pub answer-shown : 0 < r .length → take (r .length) b ≡ textIn m a
+  unfolding replyOf bytesOf textIn
   answer-shown h = ap₂ (λ (q : Reply) u. take (q .length) u) told wrote ∙ go a (subst (λ (q : Reply). 0 < q .length) told h)
     where
-      go : (a : Answer) → 0 < replyOf a .length → take (replyOf a .length) (bytesOf m a) ≡ textOf a
+      go : (a : Answer) → 0 < replyOf a .length → take (replyOf a .length) (bytesOf m a) ≡ textIn m a
       go (refused n l f) h = absurd (omega (arith, h))
       go (printed ls R) h = take-append-seam (linesText ls) (replicate (m - length (linesText ls)) 0)
 
-  pub refusal-shown : Says a → 80 ≤ length b → r .length ≤ 0 → (v : List ℕ) (k : ℕ) → Wrote b 0 (refusedIn (length b) (r .number) (r .line) (r .field)) v k → take k v ≡ textOf a
-  unfolding refusedIn replyOf textOf
-  refusal-shown y h e v k w =
-      w .front ∙ ap (λ x. cond x (lineText (refusedLine (r .number) (r .line) (r .field))) []) (le-leb 80 (length b) h)
-      ∙ ap (λ (q : Reply). lineText (refusedLine (q .number) (q .line) (q .field))) told ∙ go a y (subst (λ (q : Reply). q .length ≤ 0) told e)
+  pub answer-behind : drop (r .length) b ≡ replicate (m - r .length) 0
+  unfolding replyOf bytesOf
+  answer-behind = ap₂ (λ (q : Reply) u. drop (q .length) u) told wrote ∙ go a ∙ ap (λ (q : Reply). replicate (m - q .length) 0) (sym told)
     where
-      go : (a : Answer) → Says a → replyOf a .length ≤ 0 → lineText (refusedLine (replyOf a .number) (replyOf a .line) (replyOf a .field)) ≡ textOf a
+      go : (a : Answer) → drop (replyOf a .length) (bytesOf m a) ≡ replicate (m - replyOf a .length) 0
+      go (refused n l f) = drop-zeros 0 m
+      go (printed ls R) = drop-append-seam (linesText ls) (replicate (m - length (linesText ls)) 0)
+
+  pub refusal-shown : Says a → r .length ≤ 0 → (v : List ℕ) (k : ℕ) → Wrote b 0 (refusedIn (length b) (r .number) (r .line) (r .field)) v k → take k v ≡ textIn m a
+  unfolding replyOf textIn
+  refusal-shown y e v k w =
+      w .front ∙ ap₂ (λ n (q : Reply). refusedIn n (q .number) (q .line) (q .field)) long told ∙ go a y (subst (λ (q : Reply). q .length ≤ 0) told e)
+    where
+      go : (a : Answer) → Says a → replyOf a .length ≤ 0 → refusedIn m (replyOf a .number) (replyOf a .line) (replyOf a .field) ≡ textIn m a
       go a (refusal n l f) h = refl
       go a (lines ls l R) h = absurd (omega (arith, h, lines-some ls l))
+
+  pub refusal-behind : r .length ≤ 0 → {xs v : List ℕ} {k : ℕ} → Wrote b 0 xs v k → drop k v ≡ replicate (m - k) 0
+  refusal-behind e {xs} {v} {k} w =
+      let none : 0 ≡ r .length = omega (arith, e) in
+      let left : m - r .length - k ≡ m - k = omega (arith, e) in
+      w .rest ∙ ap (λ u. drop k u) (ap (λ i. drop i b) none ∙ answer-behind) ∙ drop-zeros k (m - r .length) ∙ ap (λ i. replicate i 0) left

@@ -26,11 +26,11 @@ use Rattle.verdicts.specs.Judged as verdicts
 use Rattle.plays.specs.Values as values
 use Rattle.plays.specs.Events as played-events
 use Rattle.plays.specs.Played as played
-use Rattle.checker.specs.Entry.{answerFor, judged, early, answerTo, textOf}
+use Rattle.checker.specs.Entry.{answerFor, judged, early, answerTo, refusedIn, textIn}
 use Rattle.checker.specs.Stars.{printedFor, T, M, D, R, cases, Stars}
 
 pub stars : Stars
-unfolding Stars cases T M D R printedFor textOf answerTo early judged answerFor
+unfolding Stars cases T M D R printedFor textIn refusedIn answerTo early judged answerFor
     field.fieldLen field.textAt field.endAt field.allDigits field.value field.digitsOf field.numberOf field.numberAt field.packed field.packedOf field.wordFrom field.wordAt field.firstAt field.lineEndAt field.after field.belowAt field.betweenAt
     places.stepOf places.walk places.placeOf places.markOf places.lastFrom places.passingOf
     tables.branchNumbers tables.partNumbers tables.pickE tables.readE tables.pickC tables.readC tables.condAt tables.actionOf tables.branchOf tables.nodeOf tables.defOf tables.sheetOf

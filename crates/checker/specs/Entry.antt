@@ -44,11 +44,11 @@ unfoldable pub placesOf : ℕ → Answer → List Row
 placesOf n (refused i l f) = replicate n noRow
 placesOf n (printed ls R) = map structOf R ++ replicate (n - length R) noRow
 
--- "Printed: `refused`,number,line,field"; or the lines of the answer
-unfoldable pub textOf : Answer → List ℕ
-textOf (refused n l f) = lineText (refusedLine n l f)
-textOf (printed ls R) = linesText ls
-
 -- the line of a refused request: what is written into a buffer of n bytes, of which 80 are enough
 unfoldable pub refusedIn : ℕ → ℕ → ℕ → ℕ → List ℕ
 refusedIn n number l f = cond (leb 80 n) (lineText (refusedLine number l f)) []
+
+-- "Printed: `refused`,number,line,field"; or the lines of the answer: what is written into a buffer of n bytes
+unfoldable pub textIn : ℕ → Answer → List ℕ
+textIn n (refused number l f) = refusedIn n number l f
+textIn n (printed ls R) = linesText ls

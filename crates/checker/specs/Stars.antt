@@ -4,11 +4,11 @@ use Prim.Native.Nat.{ℕ}
 use mathlib.Core.List.{List, [], _∷_, _++_}
 use Rattle.bitml.specs.Lists.{All}
 use Rattle.texts.specs.Text.{letters}
-use Rattle.checker.specs.Entry.{answerTo, textOf}
+use Rattle.checker.specs.Entry.{answerTo, textIn}
 
--- what the program `judge` prints for a request
+-- what the program `judge` prints for a request: it has places for 512 rows and 180,224 bytes of text
 unfoldable pub printedFor : List ℕ → List ℕ
-printedFor s = textOf (answerTo s 512 180224)
+printedFor s = textIn 180224 (answerTo s 512 180224)
 
 -- ---- the sheets
 

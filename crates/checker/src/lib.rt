@@ -11,12 +11,12 @@ use texts::put_refused;
 use verdicts::check_for;
 use verdicts::make_for;
 ghost use mathlib.Core.Path.{_≡_};
-ghost use Prim.Native.Nat.{_/_, _≤_};
-ghost use lib.ListN.{length, take};
+ghost use Prim.Native.Nat.{_/_, _-_, _≤_};
+ghost use lib.ListN.{length, take, drop, replicate};
 ghost use Rattle.reader.specs.Request.{readRequest};
 ghost use Rattle.texts.specs.Wrote.{Wrote};
 ghost use Rattle.replies.specs.Answer.{Gives, replyOf, numbersOf, bytesOf};
-ghost use Rattle.checker.specs.Entry.{judged, early, answerTo, placesOf, refusedIn, textOf};
+ghost use Rattle.checker.specs.Entry.{judged, early, answerTo, placesOf, refusedIn, textIn};
 
 // The longest request, and the fewest rows that must be lent.
 const BYTES: usize = 65536;
@@ -109,11 +109,12 @@ pub fn refused_line(number: usize, line: usize, field: usize, text: &mut [u8]) -
     put_refused(text, 0, number, line, field)
 }
 
-// The text that is printed, at the start of the buffer: how many bytes it has comes back. An answer has text, so none means refused.
+// The text that is printed, at the start of the buffer with zeros behind it: how many bytes it has comes back. An answer has text, so none means refused.
 pub fn judge_text(s: &[u8], numbers: &mut [usize], text: &mut [u8]) -> usize
-    requires { ⌜ 80 ≤ length (now text) ⌝ }
     ensures { λ r. ⌜ (r ≤ length (now (text .exit))) × (r ≡ length (take r (now (text .exit)))) ⌝ }
-    ensures { λ r. ⌜ take r (now (text .exit)) ≡ textOf (answerTo (now (s .entry)) (length (now (numbers .entry)) / 3) (length (now (text .entry)))) ⌝ }
+    ensures { λ r. ⌜ take r (now (text .exit)) ≡ textIn (length (now (text .entry))) (answerTo (now (s .entry)) (length (now (numbers .entry)) / 3) (length (now (text .entry)))) ⌝ }
+    ensures { λ r. ⌜ drop r (now (text .exit)) ≡ replicate (length (now (text .entry)) - r) 0 ⌝ }
+    ensures { λ r. ⌜ now (numbers .exit) ≡ numbersOf (length (now (numbers .entry))) (answerTo (now (s .entry)) (length (now (numbers .entry)) / 3) (length (now (text .entry)))) ⌝ }
 {
     let r = judge_numbers(s, numbers, text);
     if 0 < r.length {

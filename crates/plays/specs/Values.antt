@@ -29,16 +29,16 @@ valuesOf s at (suc n) = valueOf (valueAt s at) ∷ valuesOf s (behind (valueAt s
 
 -- ---- in a buffer, a value is one number: 0 for `x`, else one more than it
 
-unfoldable pub held : Option ℕ → ℕ
-held none = 0
-held (the v) = suc v
+unfoldable pub handed : Option ℕ → ℕ
+handed none = 0
+handed (the v) = suc v
 
 -- One value, as it was read
 pub record Read (s : List ℕ) (at : ℕ) (r : Value) : Type 0 where
-  pub is : r .held ≡ held (valueOf (valueAt s at))
+  pub is : r .number ≡ handed (valueOf (valueAt s at))
   pub next : r .next ≡ behind (valueAt s at)
 
 -- A buffer that was u₀ has become u: first the n values from `at` on, then what it had
 pub record Valued (s : List ℕ) (at n : ℕ) (u₀ u : List ℕ) : Type 0 where
-  pub first : take n u ≡ map held (valuesOf s at n)
+  pub first : take n u ≡ map handed (valuesOf s at n)
   pub rest : drop n u ≡ drop n u₀

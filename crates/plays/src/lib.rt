@@ -40,7 +40,7 @@ ghost use Rattle.plays.specs.Played.{playedFor, Line};
 
 // A value as one number, 0 for `x`, else one more than it; and the position after its field.
 pub struct Value {
-    pub held: usize,
+    pub number: usize,
     pub next: usize,
 }
 
@@ -50,11 +50,11 @@ fn one_value(s: &[u8], at: usize) -> Value
     let c = value_at(s, at);
     match c {
         Commitment::Number(v, e) => Value {
-            held: v + 1,
+            number: v + 1,
             next: e,
         },
-        Commitment::Ill(e) => Value { held: 0, next: e },
-        Commitment::Bad(_, p) => Value { held: 0, next: p },
+        Commitment::Ill(e) => Value { number: 0, next: e },
+        Commitment::Bad(_, p) => Value { number: 0, next: p },
     }
 }
 
@@ -67,7 +67,7 @@ pub fn values(s: &[u8], from: usize, n: usize, out: &mut [usize])
     let mut i = 0;
     while i < n {
         let v = one_value(s, at);
-        out[i] = v.held;
+        out[i] = v.number;
         at = v.next;
         i += 1;
     }

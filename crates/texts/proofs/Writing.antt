@@ -38,7 +38,7 @@ wrote-within {u₀} {xs} {u} {a} {r} w h =
     let e = sym (length-take r u) ∙ ap (λ zs. length zs) (w .front) ∙ length-append (take a u₀) xs in
     omega (arith, e, length-take a u₀, w .end)
 
-drop-zeros : (k n : ℕ) → drop k (replicate {A = ℕ} n 0) ≡ replicate (n - k) 0
+pub drop-zeros : (k n : ℕ) → drop k (replicate {A = ℕ} n 0) ≡ replicate (n - k) 0
 drop-zeros zero n = ap (λ m. replicate m 0) (let e : n ≡ n - 0 = omega arith in e)
 drop-zeros (suc k) zero = ap (λ m. replicate m 0) (let e : 0 ≡ 0 - suc k = omega arith in e)
 drop-zeros (suc k) (suc n) = drop-zeros k n ∙ ap (λ m. replicate m 0) (let e : n - k ≡ suc n - suc k = omega arith in e)

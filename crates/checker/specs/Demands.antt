@@ -1,0 +1,85 @@
+-- What is proved of the reply to every request: demands 2 and 3, from the bytes on. Assumes nothing.
+use mathlib.Core.Path.{_≡_}
+use mathlib.Core.Logic.{_⊎_}
+use Prim.Native.Nat.{ℕ, _≤_}
+use mathlib.Core.Option.{Option}
+use mathlib.Core.List.{List, [], _∷_, _++_, map}
+use lib.ListN.{length}
+use Rattle.bitml.specs.Sheet.{Sheet}
+use Rattle.bitml.specs.Runs.{Liquid}
+use Rattle.bitml.specs.Rows.{Row, Accepted}
+use Rattle.bitml.specs.Rule.{rows}
+use Rattle.bitml.specs.Ledger.{Event, play, stipulated}
+use Rattle.bitml.specs.Liquidity.{Numbers, NumbersAlong, NoneLive, liveRank, Way}
+use Rattle.bitml.specs.Answers.{rowLine, frozenLine, liquidBy}
+use Rattle.bitml.specs.Demands.{Frozen}
+use Rattle.tables.specs.Entries.{Entries}
+use Rattle.tables.specs.SheetOf.{sheetOf}
+use Rattle.reader.specs.Request.{request, make, check, readRequest}
+use Rattle.replies.specs.Answer.{Answer, refused, printed}
+use Rattle.checker.specs.Entry.{answerTo}
+
+-- Demand 3, first half: "one claim about the whole list of events". Wherever they lead from stipulation, P alone can empty
+-- all contracts, in no more firings than the rows rank the live ones
+unfoldable pub Leaves : Sheet → ℕ → List Row → Type 0
+Leaves S p R =
+    (vs : List (Option ℕ)) → Numbers S p 0 vs
+    → (es : List Event) → NumbersAlong S p (stipulated S vs) es
+    → Way S p (play S (stipulated S vs) es) NoneLive (liveRank R (play S (stipulated S vs) es .contracts))
+
+-- ---- `make`,P
+
+-- A liquid sheet
+pub record MadeRows (S : Sheet) (p : ℕ) (a : Answer) : Type 0 where
+  -- "one row for each reached node", the `liquid` line, and "The row buffer holds the rows"
+  pub answer : a ≡ printed (map rowLine (rows S p) ++ (liquidBy S p (rows S p) ∷ [])) (rows S p)
+  -- "A sheet is liquid for P if every reached node has an exit"
+  pub liquid : Liquid S p
+  -- Demand 3, second half: the published rows are accepted; and so its first half holds for them
+  pub accepted : Accepted S p (rows S p)
+  pub leaves : Leaves S p (rows S p)
+
+-- Any other sheet
+pub record MadeFrozen (S : Sheet) (p : ℕ) (a : Answer) : Type 0 where
+  pub node : ℕ
+  -- "`frozen` has participant, node, and is printed without rows"
+  pub answer : a ≡ printed (frozenLine p node ∷ []) []
+  -- Demand 2: the lowest reached node that has no exit
+  pub frozen : Frozen S p node
+
+-- ---- `check`,P with rows R
+
+pub record RowsTaken (S : Sheet) (p : ℕ) (R : List Row) (a : Answer) : Type 0 where
+  -- "`check` prints the `liquid` line", and "The row buffer holds the rows (for `check` as given)"
+  pub answer : a ≡ printed (liquidBy S p R ∷ []) R
+  -- "They are accepted if these hold"
+  pub accepted : Accepted S p R
+  pub leaves : Leaves S p R
+
+pub record RowsRefused (S : Sheet) (p : ℕ) (R : List Row) (a : Answer) : Type 0 where
+  pub number : ℕ
+  pub line : ℕ
+  -- "or a refusal", "field 0 from 10 up"
+  pub answer : a ≡ refused number line 0
+  -- "Rows: 10 .., 11 .., then row by row 11, 12, 13"
+  pub range : (10 ≤ number) × (number ≤ 13)
+  -- "and in no other case"
+  pub unaccepted : Accepted S p R → ⊥
+
+-- ---- of every request that is read whole
+
+-- None of "over 65,536 bytes", "a lent row buffer under 512", and a text buffer in which not every reply fits
+pub record Room (s : List ℕ) (places text : ℕ) : Type 0 where
+  pub bytes : length s ≤ 65536
+  pub enough-places : 512 ≤ places
+  pub enough-text : 180224 ≤ text
+
+pub record OfReplies : Type 0 where
+  -- Demand 2, the verdict, with both halves of demand 3 for the rows that are made
+  pub making : (s : List ℕ) (places text : ℕ) → Room s places text
+      → (K : ℕ) (E : Entries) (p : ℕ) → readRequest s ≡ request K E (make p)
+      → MadeRows (sheetOf K E) p (answerTo s places text) ⊎ MadeFrozen (sheetOf K E) p (answerTo s places text)
+  -- Demand 2, the check of rows, with the first half of demand 3 for the rows that are taken
+  pub checking : (s : List ℕ) (places text : ℕ) → Room s places text
+      → (K : ℕ) (E : Entries) (p : ℕ) (R : List Row) → readRequest s ≡ request K E (check p R)
+      → RowsTaken (sheetOf K E) p R (answerTo s places text) ⊎ RowsRefused (sheetOf K E) p R (answerTo s places text)

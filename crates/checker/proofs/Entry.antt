@@ -11,7 +11,7 @@ use mathlib.Core.Logic.{by-cases}
 use native.Mathlib.Decide.{decLe}
 use Rattle.bitml.specs.Lists.{_&_, ask}
 use Rattle.bitml.specs.Rows as bitml
-use Rattle.tables.specs.Entries.{held, people}
+use Rattle.tables.specs.Entries.{held, people, tableLong}
 use Rattle.tables.specs.SheetOf.{sheetIn, nodeEntryAt, defEntryAt}
 use Rattle.tables.proofs.Laws.{firstOf-getD}
 use Rattle.tables.proofs.Held.{node-held}
@@ -30,7 +30,7 @@ use Rattle.exits.specs.Made.{flat, filled}
 use Rattle.exits.proofs.Buffer.{flat-length}
 use Rattle.lent.specs.Structs.{structs}
 use Rattle.lent.proofs.Structs.{structs-filled, structs-cleared}
-use Rattle.replies.specs.Answer.{Answer, refused, printed, numbersOf, Gives}
+use Rattle.replies.specs.Answer.{Answer, refused, printed, numbersOf, Gives, leastText}
 use Rattle.verdicts.specs.Judged.{madeFor, checkedFor}
 use Rattle.plays.specs.Values.{valuesOf}
 use Rattle.plays.specs.Events.{eventsOf}
@@ -52,13 +52,13 @@ row-fits t u n i h f =
     }
 
 module _ (s t u : List ℕ) (x : Request) (read : answered x t u ≡ readRequest s) where
-  pub ready-make : (p : ℕ) → x ≡ code.Make p → 52072 ≤ length t → Ready t × (p < people t)
+  pub ready-make : (p : ℕ) → x ≡ code.Make p → tableLong ≤ length t → Ready t × (p < people t)
   unfolding answered PromisedWhole PartPromise
   ready-make p e long =
       let k = promised-whole s (people t) (held t) (make p) (sym (ap (λ y. answered y t u) (sym e) ∙ read)) in
       (record { long = long; promises = k .0 }, k .1)
 
-  pub ready-check : (p n : ℕ) → x ≡ code.Check p n → 52072 ≤ length t → 1536 ≤ length u → Ready t × (p < people t) × RowsFit t u n
+  pub ready-check : (p n : ℕ) → x ≡ code.Check p n → tableLong ≤ length t → 1536 ≤ length u → Ready t × (p < people t) × RowsFit t u n
   unfolding answered PromisedWhole PartPromise
   ready-check p n e long wide =
       let k = promised-whole s (people t) (held t) (check p (rowsOf n u)) (sym (ap (λ y. answered y t u) (sym e) ∙ read)) in
@@ -68,7 +68,7 @@ module _ (s t u : List ℕ) (x : Request) (read : answered x t u ≡ readRequest
         record { few = omega (arith, k .1 .1 .few); long = omega (arith, k .1 .1 .few); each = λ i h. row-fits t u n i h (k .1 .1 .each i (omega arith)) },
       )
 
-  pub ready-play : (v e : ℕ) → x ≡ code.Play v e → 52072 ≤ length t → Ready t × PlayPromise s (people t) (held t) v e
+  pub ready-play : (v e : ℕ) → x ≡ code.Play v e → tableLong ≤ length t → Ready t × PlayPromise s (people t) (held t) v e
   unfolding answered PromisedWhole PartPromise
   ready-play v e h long =
       let k = promised-whole s (people t) (held t) (play v e) (sym (ap (λ y. answered y t u) (sym h) ∙ read)) in
@@ -104,13 +104,13 @@ module _ (bytes rows text : ℕ) where
   unfolding early ask _&_
   early-rows h k = rw (le-leb bytes 65536 h, lt-leb 512 rows k)
 
-  pub early-text : bytes ≤ 65536 → 512 ≤ rows → text < 180224 → 7 ≡ early bytes rows text
+  pub early-text : bytes ≤ 65536 → 512 ≤ rows → text < leastText → 7 ≡ early bytes rows text
   unfolding early ask _&_
-  early-text h k l = rw (le-leb bytes 65536 h, le-leb 512 rows k, lt-leb 180224 text l)
+  early-text h k l = rw (le-leb bytes 65536 h, le-leb 512 rows k, lt-leb leastText text l)
 
-  pub early-none : bytes ≤ 65536 → 512 ≤ rows → 180224 ≤ text → 0 ≡ early bytes rows text
+  pub early-none : bytes ≤ 65536 → 512 ≤ rows → leastText ≤ text → 0 ≡ early bytes rows text
   unfolding early ask _&_
-  early-none h k l = rw (le-leb bytes 65536 h, le-leb 512 rows k, le-leb 180224 text l)
+  early-none h k l = rw (le-leb bytes 65536 h, le-leb 512 rows k, le-leb leastText text l)
 
 -- an answer by what refuses early
 module _ (s : List ℕ) (rows n m : ℕ) (r : Reply) (u b : List ℕ) where

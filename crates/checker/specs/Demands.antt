@@ -16,7 +16,7 @@ use Rattle.bitml.specs.Demands.{Frozen}
 use Rattle.tables.specs.Entries.{Entries}
 use Rattle.tables.specs.SheetOf.{sheetOf}
 use Rattle.reader.specs.Request.{request, make, check, readRequest}
-use Rattle.replies.specs.Answer.{Answer, refused, printed}
+use Rattle.replies.specs.Answer.{Answer, refused, printed, leastText}
 use Rattle.checker.specs.Entry.{answerTo}
 
 -- Demand 3, first half: "one claim about the whole list of events". Wherever they lead from stipulation, P alone can empty
@@ -72,7 +72,7 @@ pub record RowsRefused (S : Sheet) (p : ℕ) (R : List Row) (a : Answer) : Type 
 pub record Room (s : List ℕ) (places text : ℕ) : Type 0 where
   pub bytes : length s ≤ 65536
   pub enough-places : 512 ≤ places
-  pub enough-text : 180224 ≤ text
+  pub enough-text : leastText ≤ text
 
 pub record OfReplies : Type 0 where
   -- Demand 2, the verdict, with both halves of demand 3 for the rows that are made

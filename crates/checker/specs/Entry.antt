@@ -13,7 +13,7 @@ use Rattle.bitml.specs.Answers.{refusedLine}
 use Rattle.texts.specs.Text.{lineText, linesText}
 use Rattle.lent.specs.declared.Row.{Row}
 use Rattle.lent.specs.Structs.{noRow, structOf}
-use Rattle.replies.specs.Answer.{Answer, refused, printed}
+use Rattle.replies.specs.Answer.{Answer, refused, printed, leastText}
 use Rattle.verdicts.specs.Judged.{madeFor, checkedFor}
 use Rattle.plays.specs.Values.{valuesOf}
 use Rattle.plays.specs.Events.{eventsOf}
@@ -33,7 +33,7 @@ judged s (unread n l f) = refused n l f
 -- "over 65,536 bytes; line 0, field 0"; "a lent row buffer under 512 (line 0, field 0)", and so a text buffer in which not every reply fits:
 -- "1, then short buffers, come first"
 unfoldable pub early : ℕ → ℕ → ℕ → ℕ
-early bytes rows text = ask (leb bytes 65536) 1 (ask (leb 512 rows & leb 180224 text) 7 0)
+early bytes rows text = ask (leb bytes 65536) 1 (ask (leb 512 rows & leb leastText text) 7 0)
 
 -- a request of the bytes s, with places for so many rows and bytes of text
 unfoldable pub answerTo : List ℕ → ℕ → ℕ → Answer

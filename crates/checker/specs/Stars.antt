@@ -5,10 +5,11 @@ use mathlib.Core.List.{List, [], _∷_, _++_}
 use Rattle.bitml.specs.Lists.{All}
 use Rattle.texts.specs.Text.{letters}
 use Rattle.checker.specs.Entry.{answerTo, textIn}
+use Rattle.replies.specs.Answer.{leastText}
 
 -- what the program `judge` prints for a request: it has places for 512 rows and 180,224 bytes of text
 unfoldable pub printedFor : List ℕ → List ℕ
-printedFor s = textIn 180224 (answerTo s 512 180224)
+printedFor s = textIn leastText (answerTo s 512 leastText)
 
 -- ---- the sheets
 

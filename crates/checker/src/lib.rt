@@ -15,7 +15,7 @@ ghost use Prim.Native.Nat.{_/_, _-_, _≤_};
 ghost use lib.ListN.{length, take, drop, replicate};
 ghost use Rattle.reader.specs.Request.{readRequest};
 ghost use Rattle.texts.specs.Wrote.{Wrote};
-ghost use Rattle.replies.specs.Answer.{Gives, replyOf, numbersOf, bytesOf};
+ghost use Rattle.replies.specs.Answer.{Gives, replyOf, numbersOf, bytesOf, leastText};
 ghost use Rattle.checker.specs.Entry.{judged, early, answerTo, placesOf, refusedIn, textIn};
 
 // The longest request, and the fewest rows that must be lent.
@@ -33,7 +33,7 @@ const TOO_SHORT: usize = 7;
 // What refuses a request before it is read: 0 for nothing.
 fn early(bytes: usize, rows: usize, text: usize) -> usize
     ensures { λ r. ⌜ r ≡ early bytes rows text ⌝ }
-    ensures { λ r. ⌜ (r ≡ 0 → (bytes ≤ 65536) × (512 ≤ rows) × (180224 ≤ text)) ⌝ }
+    ensures { λ r. ⌜ (r ≡ 0 → (bytes ≤ 65536) × (512 ≤ rows) × (leastText ≤ text)) ⌝ }
 {
     if BYTES < bytes {
         return TOO_LONG;
@@ -49,7 +49,7 @@ fn early(bytes: usize, rows: usize, text: usize) -> usize
 
 // A request that is not too long, with buffers that are not too short.
 fn judged(s: &[u8], rows: &mut [usize], text: &mut [u8]) -> Reply
-    requires { ⌜ (length (now s) ≤ 65536) × (1536 ≤ length (now rows)) × (180224 ≤ length (now text)) ⌝ }
+    requires { ⌜ (length (now s) ≤ 65536) × (1536 ≤ length (now rows)) × (leastText ≤ length (now text)) ⌝ }
     ensures { λ r. ⌜ Gives (judged (now (s .entry)) (readRequest (now (s .entry)))) (length (now (rows .entry))) (length (now (text .entry))) r (now (rows .exit)) (now (text .exit)) ⌝ }
 {
     let mut t = [0usize; Sheet::TABLE];

@@ -13,6 +13,7 @@ ghost use Rattle.tables.specs.State.{stateOf, Fits};
 ghost use Rattle.steps.specs.Steps.{Met, twice};
 ghost use Rattle.conditions.specs.Words.{conditionCell, expressionCell};
 ghost use Rattle.conditions.specs.Condition.{storeAt, constantAt, secretAt, expressionAt, conditionAt, Ready, Stored, Kept};
+ghost use Rattle.tables.specs.Entries.{tableLong};
 
 // The words, as numbers in base 256.
 const T: usize = b't' as usize;
@@ -63,7 +64,7 @@ fn expression_cell(w: usize) -> usize
 
 // A cell more for the field at p, unless the cells have come to the limit.
 fn store(st: St, p: usize, limit: usize, v: usize, t: &mut [usize]) -> Read
-    requires { ⌜ 52072 ≤ length (now t) ⌝ }
+    requires { ⌜ tableLong ≤ length (now t) ⌝ }
     requires { ⌜ Fits st ⌝ }
     requires { ⌜ st .cells < 32768 ⌝ }
     ensures { λ r. ⌜ Met (Stored limit st) (storeAt limit p v (stateOf st (now (t .entry)))) r (now (t .exit)) ⌝ }
@@ -77,7 +78,7 @@ fn store(st: St, p: usize, limit: usize, v: usize, t: &mut [usize]) -> Read
 
 // The number of a `k`.
 fn constant(s: &[u8], st: St, limit: usize, t: &mut [usize]) -> Read
-    requires { ⌜ 52072 ≤ length (now t) ⌝ }
+    requires { ⌜ tableLong ≤ length (now t) ⌝ }
     requires { ⌜ Ready (now s) st ⌝ }
     ensures { λ r. ⌜ Met (Kept (now (s .entry)) limit st) (constantAt (now (s .entry)) limit (stateOf st (now (t .entry)))) r (now (t .exit)) ⌝ }
 {
@@ -90,7 +91,7 @@ fn constant(s: &[u8], st: St, limit: usize, t: &mut [usize]) -> Read
 
 // The secret of a `v`, one of those listed from `from` on.
 fn secret(s: &[u8], st: St, limit: usize, from: usize, t: &mut [usize]) -> Read
-    requires { ⌜ 52072 ≤ length (now t) ⌝ }
+    requires { ⌜ tableLong ≤ length (now t) ⌝ }
     requires { ⌜ Ready (now s) st ⌝ }
     ensures { λ r. ⌜ Met (Kept (now (s .entry)) limit st) (secretAt (now (s .entry)) limit from (stateOf st (now (t .entry)))) r (now (t .exit)) ⌝ }
 {
@@ -108,7 +109,7 @@ fn secret(s: &[u8], st: St, limit: usize, from: usize, t: &mut [usize]) -> Read
 
 // An expression, with so many words left to nest.
 fn expression(s: &[u8], st: St, depth: usize, limit: usize, from: usize, t: &mut [usize]) -> Read
-    requires { ⌜ 52072 ≤ length (now t) ⌝ }
+    requires { ⌜ tableLong ≤ length (now t) ⌝ }
     requires { ⌜ Ready (now s) st ⌝ }
     ensures { λ r. ⌜ Met (Kept (now (s .entry)) limit st) (expressionAt (now (s .entry)) limit from depth (stateOf st (now (t .entry)))) r (now (t .exit)) ⌝ }
 {
@@ -142,7 +143,7 @@ fn both_expressions(
     from: usize,
     t: &mut [usize],
 ) -> Read
-    requires { ⌜ 52072 ≤ length (now t) ⌝ }
+    requires { ⌜ tableLong ≤ length (now t) ⌝ }
     requires { ⌜ Ready (now s) st ⌝ }
     ensures { λ r. ⌜ Met (Kept (now (s .entry)) limit st) (twice (expressionAt (now (s .entry)) limit from depth) (stateOf st (now (t .entry)))) r (now (t .exit)) ⌝ }
 {
@@ -155,7 +156,7 @@ fn both_expressions(
 
 // A condition, with so many words left to nest.
 pub fn condition(s: &[u8], st: St, depth: usize, limit: usize, from: usize, t: &mut [usize]) -> Read
-    requires { ⌜ 52072 ≤ length (now t) ⌝ }
+    requires { ⌜ tableLong ≤ length (now t) ⌝ }
     requires { ⌜ Ready (now s) st ⌝ }
     ensures { λ r. ⌜ Met (Kept (now (s .entry)) limit st) (conditionAt (now (s .entry)) limit from depth (stateOf st (now (t .entry)))) r (now (t .exit)) ⌝ }
 {
@@ -190,7 +191,7 @@ fn both_conditions(
     from: usize,
     t: &mut [usize],
 ) -> Read
-    requires { ⌜ 52072 ≤ length (now t) ⌝ }
+    requires { ⌜ tableLong ≤ length (now t) ⌝ }
     requires { ⌜ Ready (now s) st ⌝ }
     ensures { λ r. ⌜ Met (Kept (now (s .entry)) limit st) (twice (conditionAt (now (s .entry)) limit from depth) (stateOf st (now (t .entry)))) r (now (t .exit)) ⌝ }
 {

@@ -33,7 +33,7 @@ ghost use Rattle.ledger.specs.Fit.{Fit};
 ghost use Rattle.ledger.specs.Does.{Does};
 ghost use Rattle.texts.specs.Text.{lineText, linesText};
 ghost use Rattle.texts.specs.Wrote.{Wrote};
-ghost use Rattle.replies.specs.Answer.{Gives};
+ghost use Rattle.replies.specs.Answer.{Gives, leastText};
 ghost use Rattle.plays.specs.Values.{valuesOf, Valued, Read};
 ghost use Rattle.plays.specs.Events.{eventOf, eventsOf};
 ghost use Rattle.plays.specs.Played.{playedFor, Line};
@@ -101,7 +101,7 @@ fn play(
     requires { ⌜ Ready (now t) ⌝ }
     requires { ⌜ Indexed (held (now t)) (now x) ⌝ }
     requires { ⌜ Fit (now t) l ⌝ }
-    requires { ⌜ (length (now s) ≤ 65536) × (from ≤ length (now s)) × (first ≤ 100) × (180224 ≤ length (now text)) ⌝ }
+    requires { ⌜ (length (now s) ≤ 65536) × (from ≤ length (now s)) × (first ≤ 100) × (leastText ≤ length (now text)) ⌝ }
     requires { ⌜ eventsAt (now s) (people (now t)) from ≡ Good ⌝ }
     ensures { λ r. ⌜ Wrote (now (text .entry)) 0 (linesText (playLines (sheetIn (now (t .entry))) (view (people (now (t .entry))) l) first (eventsOf (now (s .entry)) (people (now (t .entry))) from))) (now (text .exit)) r ⌝ }
 {
@@ -153,7 +153,7 @@ pub fn play_for(
     text: &mut [u8],
 ) -> Reply
     requires { ⌜ Ready (now t) ⌝ }
-    requires { ⌜ (length (now s) ≤ 65536) × (180224 ≤ length (now text)) ⌝ }
+    requires { ⌜ (length (now s) ≤ 65536) × (leastText ≤ length (now text)) ⌝ }
     requires { ⌜ PlayPromise (now s) (people (now t)) (held (now t)) from to ⌝ }
     ensures { λ r. ⌜ Gives (playedFor (sheetIn (now (t .entry))) (valuesOf (now (s .entry)) from (defEntryAt (held (now (t .entry))) 0 .secrets)) (eventsOf (now (s .entry)) (people (now (t .entry))) to)) (length (now (rows .entry))) (length (now (text .entry))) r (now (rows .exit)) (now (text .exit)) ⌝ }
 {

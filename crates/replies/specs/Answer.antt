@@ -9,6 +9,10 @@ use Rattle.exits.specs.Made.{filled}
 use Rattle.texts.specs.Text.{linesText}
 use Rattle.replies.specs.declared.Reply.{Reply}
 
+-- every reply fits a text buffer of so many bytes
+abbrev pub leastText : ℕ
+leastText = 180224
+
 -- "`refused`,number,line,field"; or the lines that are printed, and the rows of the row buffer
 pub data Answer : Type 0 where
   refused : ℕ → ℕ → ℕ → Answer

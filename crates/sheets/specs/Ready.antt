@@ -2,14 +2,14 @@
 use Prim.Native.Nat.{ℕ, _≤_}
 use mathlib.Core.List.{List}
 use lib.ListN.{length, drop}
-use Rattle.tables.specs.Entries.{Entries, held, people}
+use Rattle.tables.specs.Entries.{Entries, held, people, tableLong}
 use Rattle.tables.specs.SheetOf.{nodeEntryAt, branchEntryAt}
 use Rattle.bucket.specs.Bucket.{Buckets}
 use Rattle.reader.specs.Promises.{Promises}
 
 -- "The judging part knows a sheet only by what the reader promises"
 pub record Ready (t : List ℕ) : Type 0 where
-  pub long : 52072 ≤ length t
+  pub long : tableLong ≤ length t
   pub promises : Promises (people t) (held t)
 
 -- From 0 where each node's branches start, from 513 the branches by node; from 1537 where each branch's parts start (and last those of no

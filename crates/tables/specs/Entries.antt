@@ -42,6 +42,10 @@ firstOf f (suc n) = firstOf f n ++ (f n ∷ [])
 
 -- ---- the layout: where entry i of each section stands in a table
 
+-- how many numbers a table has
+abbrev pub tableLong : ℕ
+tableLong = 52072
+
 abbrev pub nodeIn : List ℕ → ℕ → NodeEntry
 nodeIn t i =
     record {

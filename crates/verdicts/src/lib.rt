@@ -21,13 +21,13 @@ ghost use Rattle.tables.specs.SheetOf.{sheetIn};
 ghost use Rattle.requests.specs.Rows.{rowsOf};
 ghost use Rattle.sheets.specs.Ready.{Ready};
 ghost use Rattle.rows.specs.Given.{RowsFit};
-ghost use Rattle.replies.specs.Answer.{Gives};
+ghost use Rattle.replies.specs.Answer.{Gives, leastText};
 ghost use Rattle.verdicts.specs.Judged.{madeFor, checkedFor};
 
 // `make`,p: the rows into the row buffer and, with the last line, into the text.
 pub fn make_for(t: &[usize], p: usize, rows: &mut [usize], text: &mut [u8]) -> Reply
     requires { ⌜ Ready (now t) ⌝ }
-    requires { ⌜ (p < people (now t)) × (1536 ≤ length (now rows)) × (180224 ≤ length (now text)) ⌝ }
+    requires { ⌜ (p < people (now t)) × (1536 ≤ length (now rows)) × (leastText ≤ length (now text)) ⌝ }
     ensures { λ r. ⌜ Gives (madeFor (sheetIn (now (t .entry))) p) (length (now (rows .entry))) (length (now (text .entry))) r (now (rows .exit)) (now (text .exit)) ⌝ }
 {
     let mut x = [0usize; INDEX];
@@ -50,7 +50,7 @@ pub fn make_for(t: &[usize], p: usize, rows: &mut [usize], text: &mut [u8]) -> R
 // `check`,p of the n rows that stand in the row buffer.
 pub fn check_for(t: &[usize], p: usize, n: usize, rows: &mut [usize], text: &mut [u8]) -> Reply
     requires { ⌜ Ready (now t) ⌝ }
-    requires { ⌜ (p < people (now t)) × (180224 ≤ length (now text)) ⌝ }
+    requires { ⌜ (p < people (now t)) × (leastText ≤ length (now text)) ⌝ }
     requires { ⌜ RowsFit (now t) (now rows) n ⌝ }
     ensures { λ r. ⌜ Gives (checkedFor (sheetIn (now (t .entry))) p (rowsOf n (now (rows .entry)))) (length (now (rows .entry))) (length (now (text .entry))) r (now (rows .exit)) (now (text .exit)) ⌝ }
 {

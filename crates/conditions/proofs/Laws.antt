@@ -14,12 +14,12 @@ use Rattle.tables.proofs.Laws.{cells-length}
 use Rattle.steps.specs.Steps.{Outcome, next, bad, either, andThen, twice}
 use Rattle.steps.proofs.Laws.{Took, Leads}
 use Rattle.conditions.specs.Words.{noWord, pick, conditionCell, expressionCell}
-use Rattle.conditions.specs.Condition.{storeAt, constantAt, secretAt, operandsAt, expressionIn, expressionAt, clausesAt, conditionIn, conditionAt, Ready, Stored, Kept}
+use Rattle.conditions.specs.Condition.{storeAt, constantAt, secretAt, operandsAt, expressionIn, expressionAt, clausesAt, conditionIn, conditionAt, HasRoom, Stored, Kept}
 
 -- ---- counts
 
 module _ {s : List ℕ} where
-  pub ready-took : {n : ℕ} {st e : St} → Ready s st → Took s n st e → Ready s e
+  pub ready-took : {n : ℕ} {st e : St} → HasRoom s st → Took s n st e → HasRoom s e
   ready-took r k =
       record {
         fits = record { nodes-fit = omega arith; branches-fit = omega arith; defs-fit = omega arith; listed-fit = omega arith; cells-fit = omega arith };
@@ -29,11 +29,11 @@ module _ {s : List ℕ} where
       }
 
   -- a field of two bytes pays for a cell
-  pub room : {st e : St} → Ready s st → Took s 2 st e → e .cells < 32768
+  pub room : {st e : St} → HasRoom s st → Took s 2 st e → e .cells < 32768
   room r k = omega arith
 
   module _ {limit : ℕ} where
-    pub kept-stored : {st e q : St} → Ready s st → Took s 2 st e → Stored limit e q → Kept s limit st q
+    pub kept-stored : {st e q : St} → HasRoom s st → Took s 2 st e → Stored limit e q → Kept s limit st q
     kept-stored {st} r k h =
         subst (Kept s limit st) (sym (h .one-cell))
         (record {
@@ -46,7 +46,7 @@ module _ {s : List ℕ} where
           still-inside = omega arith;
         })
 
-    pub ready-kept : {st e : St} → Ready s st → Kept s limit st e → Ready s e
+    pub ready-kept : {st e : St} → HasRoom s st → Kept s limit st e → HasRoom s e
     ready-kept r k =
         record {
           fits = record { nodes-fit = omega arith; branches-fit = omega arith; defs-fit = omega arith; listed-fit = omega arith; cells-fit = omega arith };

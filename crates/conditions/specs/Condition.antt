@@ -71,7 +71,7 @@ module _ (s : List ℕ) (limit from : ℕ) where
 -- ---- what is promised of the counts
 
 -- what is filled fits, and each cell took two bytes of a request that is not over 65,536: so there is room for a cell for each field
-pub record Ready (s : List ℕ) (st : St) : Type 0 where
+pub record HasRoom (s : List ℕ) (st : St) : Type 0 where
   pub fits : Fits st
   pub paid : 2 * st .cells ≤ st .at
   pub inside : st .at ≤ length s

@@ -12,7 +12,7 @@ ghost use lib.ListN.{length};
 ghost use Rattle.tables.specs.State.{stateOf, Fits};
 ghost use Rattle.steps.specs.Steps.{Met, twice};
 ghost use Rattle.conditions.specs.Words.{conditionCell, expressionCell};
-ghost use Rattle.conditions.specs.Condition.{storeAt, constantAt, secretAt, expressionAt, conditionAt, Ready, Stored, Kept};
+ghost use Rattle.conditions.specs.Condition.{storeAt, constantAt, secretAt, expressionAt, conditionAt, HasRoom, Stored, Kept};
 ghost use Rattle.tables.specs.Entries.{tableLong};
 
 // The words, as numbers in base 256.
@@ -79,7 +79,7 @@ fn store(st: St, p: usize, limit: usize, v: usize, t: &mut [usize]) -> Read
 // The number of a `k`.
 fn constant(s: &[u8], st: St, limit: usize, t: &mut [usize]) -> Read
     requires { ⌜ tableLong ≤ length (now t) ⌝ }
-    requires { ⌜ Ready (now s) st ⌝ }
+    requires { ⌜ HasRoom (now s) st ⌝ }
     ensures { λ r. ⌜ Met (Kept (now (s .entry)) limit st) (constantAt (now (s .entry)) limit (stateOf st (now (t .entry)))) r (now (t .exit)) ⌝ }
 {
     let g = num(s, st, Sheet::CONSTANT);
@@ -92,7 +92,7 @@ fn constant(s: &[u8], st: St, limit: usize, t: &mut [usize]) -> Read
 // The secret of a `v`, one of those listed from `from` on.
 fn secret(s: &[u8], st: St, limit: usize, from: usize, t: &mut [usize]) -> Read
     requires { ⌜ tableLong ≤ length (now t) ⌝ }
-    requires { ⌜ Ready (now s) st ⌝ }
+    requires { ⌜ HasRoom (now s) st ⌝ }
     ensures { λ r. ⌜ Met (Kept (now (s .entry)) limit st) (secretAt (now (s .entry)) limit from (stateOf st (now (t .entry)))) r (now (t .exit)) ⌝ }
 {
     let g = num(s, st, Sheet::NUMBER);
@@ -110,7 +110,7 @@ fn secret(s: &[u8], st: St, limit: usize, from: usize, t: &mut [usize]) -> Read
 // An expression, with so many words left to nest.
 fn expression(s: &[u8], st: St, depth: usize, limit: usize, from: usize, t: &mut [usize]) -> Read
     requires { ⌜ tableLong ≤ length (now t) ⌝ }
-    requires { ⌜ Ready (now s) st ⌝ }
+    requires { ⌜ HasRoom (now s) st ⌝ }
     ensures { λ r. ⌜ Met (Kept (now (s .entry)) limit st) (expressionAt (now (s .entry)) limit from depth (stateOf st (now (t .entry)))) r (now (t .exit)) ⌝ }
 {
     let g = letters(s, st);
@@ -144,7 +144,7 @@ fn both_expressions(
     t: &mut [usize],
 ) -> Read
     requires { ⌜ tableLong ≤ length (now t) ⌝ }
-    requires { ⌜ Ready (now s) st ⌝ }
+    requires { ⌜ HasRoom (now s) st ⌝ }
     ensures { λ r. ⌜ Met (Kept (now (s .entry)) limit st) (twice (expressionAt (now (s .entry)) limit from depth) (stateOf st (now (t .entry)))) r (now (t .exit)) ⌝ }
 {
     let g = expression(s, st, depth, limit, from, t);
@@ -157,7 +157,7 @@ fn both_expressions(
 // A condition, with so many words left to nest.
 pub fn condition(s: &[u8], st: St, depth: usize, limit: usize, from: usize, t: &mut [usize]) -> Read
     requires { ⌜ tableLong ≤ length (now t) ⌝ }
-    requires { ⌜ Ready (now s) st ⌝ }
+    requires { ⌜ HasRoom (now s) st ⌝ }
     ensures { λ r. ⌜ Met (Kept (now (s .entry)) limit st) (conditionAt (now (s .entry)) limit from depth (stateOf st (now (t .entry)))) r (now (t .exit)) ⌝ }
 {
     let g = letters(s, st);
@@ -192,7 +192,7 @@ fn both_conditions(
     t: &mut [usize],
 ) -> Read
     requires { ⌜ tableLong ≤ length (now t) ⌝ }
-    requires { ⌜ Ready (now s) st ⌝ }
+    requires { ⌜ HasRoom (now s) st ⌝ }
     ensures { λ r. ⌜ Met (Kept (now (s .entry)) limit st) (twice (conditionAt (now (s .entry)) limit from depth) (stateOf st (now (t .entry)))) r (now (t .exit)) ⌝ }
 {
     let g = condition(s, st, depth, limit, from, t);

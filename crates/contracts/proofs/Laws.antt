@@ -15,9 +15,9 @@ use Rattle.tables.specs.State.{State, nodesOf, branchesOf, listedOf, moreNodes,
 use Rattle.tables.proofs.Laws.{nodes-length, branches-length, listed-length}
 use Rattle.steps.specs.Steps.{next, bad, goOn, either, andThen, times}
 use Rattle.steps.proofs.Laws.{Took, Leads}
-use Rattle.conditions.specs.Condition.{conditionAt, Ready, Kept}
+use Rattle.conditions.specs.Condition.{conditionAt, HasRoom, Kept}
 use Rattle.contracts.specs.declared.Limits.{Limits}
-use Rattle.contracts.specs.Contract.{wWord, sWord, rWord, gWord, Reader, action, leafAt, weighedAt, splitAt, listAt, holdAt, openAt, revealAt, actionAt, branchAt, insideAt, contractAt}
+use Rattle.contracts.specs.Contract.{wWord, sWord, rWord, gWord, ContractReader, action, leafAt, weighedAt, splitAt, listAt, holdAt, openAt, revealAt, actionAt, branchAt, insideAt, contractAt}
 use Rattle.contracts.specs.Counts.{Few, Added}
 
 -- ---- counts
@@ -34,7 +34,7 @@ module _ {s : List ℕ} where
       (record { nodes = k .nodes; branches = omega arith; defs = k .defs; listed = omega arith; cells = k .cells; further = omega arith; inside = k .inside })
 
   -- the numbers of a list, one by one
-  pub added-none : (n : ℕ) (st : St) → Ready s st → Added s 0 (n - n) st st
+  pub added-none : (n : ℕ) (st : St) → HasRoom s st → Added s 0 (n - n) st st
   added-none n st r =
       record { nodes = refl; branches = omega arith; defs = refl; listed = omega arith; cells = refl; further = omega arith; inside = r .inside }
 
@@ -46,7 +46,7 @@ module _ {s : List ℕ} where
   added-all left a h =
       record { nodes = a .nodes; branches = a .branches; defs = a .defs; listed = omega arith; cells = a .cells; further = a .further; inside = a .inside }
 
-  pub ready-added : {b l : ℕ} {st e : St} → Ready s st → Added s b l st e → st .branches + b ≤ 1024 → st .listed + l ≤ 8960 → Ready s e
+  pub ready-added : {b l : ℕ} {st e : St} → HasRoom s st → Added s b l st e → st .branches + b ≤ 1024 → st .listed + l ≤ 8960 → HasRoom s e
   ready-added r k h i =
       record {
         fits = record { nodes-fit = omega arith; branches-fit = omega arith; defs-fit = omega arith; listed-fit = omega arith; cells-fit = omega arith };
@@ -56,7 +56,7 @@ module _ {s : List ℕ} where
       }
 
   module _ {lim : Limits} where
-    pub ready : {st : St} → Few s lim st → Ready s st
+    pub ready : {st : St} → Few s lim st → HasRoom s st
     ready f =
         record {
           fits = record { nodes-fit = omega arith; branches-fit = omega arith; defs-fit = omega arith; listed-fit = omega arith; cells-fit = omega arith };
@@ -106,13 +106,13 @@ branches-free k n t h = rw branches-length (lt-leb k n h)
 
 module _ {P : St → Type 0} (s : List ℕ) where
   -- the parts, one by one
-  pub weighed-more : (k : Reader) (b sum n : ℕ) (a : State) → 0 < n
+  pub weighed-more : (k : ContractReader) (b sum n : ℕ) (a : State) → 0 < n
       → Leads P (goOn a (numberAt s (a .at) 1000) λ w a₁. either (eqb ((n - 1) + (sum + w)) 0) (bad 8 (a .at)) (andThen (k b w a₁) (weighedAt s k b (sum + w) (n - 1)))) (weighedAt s k b sum n a)
   unfolding weighedAt
   weighed-more k b sum zero a h r t m = absurd (omega arith)
   weighed-more k b sum (suc n) a h r t m = simp (sub-one) at m
 
-  pub weighed-none : (k : Reader) (b sum n : ℕ) (a : State) → n ≤ 0 → Leads P (next a) (weighedAt s k b sum n a)
+  pub weighed-none : (k : ContractReader) (b sum n : ℕ) (a : State) → n ≤ 0 → Leads P (next a) (weighedAt s k b sum n a)
   unfolding weighedAt
   weighed-none k b sum zero a h r t m = m
   weighed-none k b sum (suc n) a h r t m = absurd (omega arith)
@@ -130,7 +130,7 @@ module _ {P : St → Type 0} (s : List ℕ) where
     inside-more (suc d) p b w a h r t m = simp (sub-one) at m
 
     -- the action, by its word
-    module _ (k : Reader) (h : Head) (p : ℕ) (a : State) (w : ℕ) where
+    module _ (k : ContractReader) (h : Head) (p : ℕ) (a : State) (w : ℕ) where
       pub action-w : w ≡ wWord → Leads P (leafAt s h 0 (lim .people) a) (actionAt s lim k h p a w)
       unfolding actionAt either
       action-w e r t m = rw e m
@@ -152,28 +152,28 @@ module _ {P : St → Type 0} (s : List ℕ) where
       action-other e f g i r t m = rw (ne-eqb w wWord e, ne-eqb w sWord f, ne-eqb w rWord g, ne-eqb w gWord i) m
 
   -- the secrets are listed from m on
-  pub list-from : (k : Reader) (h : Head) (secrets n m : ℕ) (t₀ : List ℕ) (a : State)
+  pub list-from : (k : ContractReader) (h : Head) (secrets n m : ℕ) (t₀ : List ℕ) (a : State)
       → Leads P (andThen (times n (listAt s secrets m) a) (openAt s k h n m)) (andThen (times n (listAt s secrets (length (listedOf m t₀))) a) (openAt s k h n (length (listedOf m t₀))))
   list-from k h secrets n m t₀ a r t i = rw (listed-length m t₀) i
 
   -- the condition starts at m
-  pub open-from : (k : Reader) (h : Head) (n from m : ℕ) (a : State) → length (a .cells) ≡ m
+  pub open-from : (k : ContractReader) (h : Head) (n from m : ℕ) (a : State) → length (a .cells) ≡ m
       → Leads P (andThen (conditionAt s (m + 64) from 64 a) λ a₁. holdAt k h (action 2 (length (a₁ .nodes)) from n m) (length (a₁ .branches)) a₁) (openAt s k h n from a)
   unfolding openAt
   open-from k h n from m a e r t i = rw e i
 
 -- the branches begin, with the node stored
-pub begin : (s : List ℕ) (lim : Limits) (k : Reader) (n m i : ℕ) (t : List ℕ) (x a : State) → i ≡ m → x ≡ a
+pub begin : (s : List ℕ) (lim : Limits) (k : ContractReader) (n m i : ℕ) (t : List ℕ) (x a : State) → i ≡ m → x ≡ a
     → times n (branchAt s lim k i) x ≡ times n (branchAt s lim k (length (nodesOf m t))) a
 begin s lim k n m i t x a h e = rw (nodes-length m t, h, e)
 
 -- the parts begin, with the branch stored
-pub begin-parts : (s : List ℕ) (k : Reader) (n m i : ℕ) (t : List ℕ) (x a : State) → i ≡ m → x ≡ a
+pub begin-parts : (s : List ℕ) (k : ContractReader) (n m i : ℕ) (t : List ℕ) (x a : State) → i ≡ m → x ≡ a
     → weighedAt s k i 0 n x ≡ weighedAt s k (length (branchesOf m t)) 0 n a
 begin-parts s k n m i t x a h e = rw (branches-length m t, h, e)
 
 -- the contract of an `r` begins, with the branch stored
-pub begin-reveal : {P : St → Type 0} (k : Reader) (h : Head) (from n start m i : ℕ) (t : List ℕ) (x a : State) → x ≡ withBranch (branchEntry h (action 2 i from n start)) a
+pub begin-reveal : {P : St → Type 0} (k : ContractReader) (h : Head) (from n start m i : ℕ) (t : List ℕ) (x a : State) → x ≡ withBranch (branchEntry h (action 2 i from n start)) a
     → Leads P (k m 0 x) (holdAt k h (action 2 (length (nodesOf i t)) from n start) (length (branchesOf m t)) a)
 unfolding holdAt
 begin-reveal k h from n start m i t x a e r u q = rw (branches-length m t, nodes-length i t, ← e) q

@@ -16,7 +16,7 @@ ghost use Prim.Native.Nat.{_+_, _≤_, _<_};
 ghost use lib.ListN.{length};
 ghost use Rattle.tables.specs.State.{stateOf};
 ghost use Rattle.steps.specs.Steps.{Met, times};
-ghost use Rattle.conditions.specs.Condition.{Ready};
+ghost use Rattle.conditions.specs.Condition.{HasRoom};
 ghost use Rattle.contracts.specs.Contract.{leafAt, listAt, contractAt, branchAt, splitAt, weighedAt, revealAt};
 ghost use Rattle.contracts.specs.Counts.{Few, Added};
 ghost use Rattle.tables.specs.Entries.{tableLong};
@@ -44,7 +44,7 @@ pub struct Limits {
 // `w`,p and `g`,d: a branch with a number below a limit.
 fn leaf(s: &[u8], st: St, h: Head, kind: usize, limit: usize, t: &mut [usize]) -> Read
     requires { ⌜ tableLong ≤ length (now t) ⌝ }
-    requires { ⌜ Ready (now s) st ⌝ }
+    requires { ⌜ HasRoom (now s) st ⌝ }
     requires { ⌜ st .branches < 1024 ⌝ }
     ensures { λ r. ⌜ Met (Added (now (s .entry)) 1 0 st) (leafAt (now (s .entry)) h kind limit (stateOf st (now (t .entry)))) r (now (t .exit)) ⌝ }
 {
@@ -69,7 +69,7 @@ fn leaf(s: &[u8], st: St, h: Head, kind: usize, limit: usize, t: &mut [usize]) -
 // A secret of an `r`, whose list starts at `from`.
 fn list(s: &[u8], st: St, secrets: usize, from: usize, t: &mut [usize]) -> Read
     requires { ⌜ tableLong ≤ length (now t) ⌝ }
-    requires { ⌜ Ready (now s) st ⌝ }
+    requires { ⌜ HasRoom (now s) st ⌝ }
     requires { ⌜ st .listed < 8960 ⌝ }
     ensures { λ r. ⌜ Met (Added (now (s .entry)) 0 1 st) (listAt (now (s .entry)) secrets from (stateOf st (now (t .entry)))) r (now (t .exit)) ⌝ }
 {
@@ -92,7 +92,7 @@ fn list(s: &[u8], st: St, secrets: usize, from: usize, t: &mut [usize]) -> Read
 // The n secrets of an `r`.
 fn list_all(s: &[u8], st: St, n: usize, secrets: usize, from: usize, t: &mut [usize]) -> Read
     requires { ⌜ tableLong ≤ length (now t) ⌝ }
-    requires { ⌜ Ready (now s) st ⌝ }
+    requires { ⌜ HasRoom (now s) st ⌝ }
     requires { ⌜ st .listed + n ≤ 8960 ⌝ }
     ensures { λ r. ⌜ Met (Added (now (s .entry)) 0 n st) (times n (listAt (now (s .entry)) secrets from) (stateOf st (now (t .entry)))) r (now (t .exit)) ⌝ }
 {

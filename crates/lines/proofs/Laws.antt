@@ -16,7 +16,7 @@ use Rattle.steps.specs.declared.Read.{Read}
 use Rattle.steps.specs.declared.Read.the-variants.{Value, Bad}
 use Rattle.steps.specs.Steps.{Outcome, next, bad, moved, Met, goOn, either, andThen, times}
 use Rattle.steps.proofs.Laws.{Took, took-line-end, passed, refused, done, Leads}
-use Rattle.conditions.specs.Condition.{Ready}
+use Rattle.conditions.specs.Condition.{HasRoom}
 use Rattle.contracts.specs.declared.Limits.{Limits}
 use Rattle.contracts.specs.Contract.{contractAt}
 use Rattle.contracts.specs.Counts.{Few, Added}
@@ -66,7 +66,7 @@ module _ (P : St → Type 0) (s : List ℕ) where
 -- ---- counts
 
 module _ (s : List ℕ) where
-  pub between-ready : (n : ℕ) (st : St) → Between s n st → n ≤ 24 → st .defs < 32 → Ready s st
+  pub between-ready : (n : ℕ) (st : St) → Between s n st → n ≤ 24 → st .defs < 32 → HasRoom s st
   between-ready n st b h i =
       record {
         fits = record { nodes-fit = b .few-nodes; branches-fit = b .few-branches; defs-fit = omega arith; listed-fit = omega arith; cells-fit = omega arith };

@@ -21,7 +21,7 @@ ghost use Prim.Native.Nat.{ℕ, _+_, _≤_, _<_, _^_};
 ghost use lib.ListN.{length};
 ghost use Rattle.tables.specs.State.{stateOf};
 ghost use Rattle.steps.specs.Steps.{Outcome, Met, times};
-ghost use Rattle.conditions.specs.Condition.{Ready};
+ghost use Rattle.conditions.specs.Condition.{HasRoom};
 ghost use Rattle.lines.specs.LineOne.{countsAt, lineOneAt};
 ghost use Rattle.contracts.specs.Counts.{Added};
 ghost use Rattle.lines.specs.Counts.{Between, Defined};
@@ -86,7 +86,7 @@ pub fn line_one(s: &[u8]) -> LineOne
 // n deposits.
 fn deposits(s: &[u8], st: St, n: usize, t: &mut [usize]) -> Read
     requires { ⌜ tableLong ≤ length (now t) ⌝ }
-    requires { ⌜ Ready (now s) st ⌝ }
+    requires { ⌜ HasRoom (now s) st ⌝ }
     requires { ⌜ st .listed + n ≤ 8960 ⌝ }
     ensures { λ r. ⌜ Met (Added (now (s .entry)) 0 n st) (depositsAt (now (s .entry)) 0 n (stateOf st (now (t .entry)))) r (now (t .exit)) ⌝ }
 {
@@ -111,7 +111,7 @@ fn deposits(s: &[u8], st: St, n: usize, t: &mut [usize]) -> Read
 // The owner of a secret.
 fn owner(s: &[u8], st: St, people: usize, t: &mut [usize]) -> Read
     requires { ⌜ tableLong ≤ length (now t) ⌝ }
-    requires { ⌜ Ready (now s) st ⌝ }
+    requires { ⌜ HasRoom (now s) st ⌝ }
     requires { ⌜ st .listed < 8960 ⌝ }
     ensures { λ r. ⌜ Met (Added (now (s .entry)) 0 1 st) (ownerAt (now (s .entry)) people (stateOf st (now (t .entry)))) r (now (t .exit)) ⌝ }
 {
@@ -129,7 +129,7 @@ fn owner(s: &[u8], st: St, people: usize, t: &mut [usize]) -> Read
 // The owners of n secrets.
 fn owners(s: &[u8], st: St, n: usize, people: usize, t: &mut [usize]) -> Read
     requires { ⌜ tableLong ≤ length (now t) ⌝ }
-    requires { ⌜ Ready (now s) st ⌝ }
+    requires { ⌜ HasRoom (now s) st ⌝ }
     requires { ⌜ st .listed + n ≤ 8960 ⌝ }
     ensures { λ r. ⌜ Met (Added (now (s .entry)) 0 n st) (times n (ownerAt (now (s .entry)) people) (stateOf st (now (t .entry)))) r (now (t .exit)) ⌝ }
 {

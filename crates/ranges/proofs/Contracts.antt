@@ -13,7 +13,7 @@ use Rattle.tables.specs.State.{State, entries, nodeEntry, branchEntry, withBran
 use Rattle.tables.specs.SheetOf.{defEntryAt}
 use Rattle.steps.specs.Steps.{toPlace}
 use Rattle.contracts.specs.declared.Limits.{Limits}
-use Rattle.contracts.specs.Contract.{Reader, action, holdAt, leafAt, weighedAt, splitAt, listAt, openAt, revealAt, contractWith, actionAt, branchAt, insideAt, contractAt}
+use Rattle.contracts.specs.Contract.{ContractReader, action, holdAt, leafAt, weighedAt, splitAt, listAt, openAt, revealAt, contractWith, actionAt, branchAt, insideAt, contractAt}
 use Rattle.lines.specs.Definition.{within}
 use Rattle.lines.specs.Sheet.{sizes}
 use Rattle.ranges.specs.Ranged.{Below, RevealRange, BranchRange, secretsAt}
@@ -105,10 +105,10 @@ module _ (s : List ℕ) (K F d S : ℕ) (ds : List DefEntry) (few : S ≤ 8) (la
   limits = within (sizes K F) S d
 
   -- a contract reader that keeps the state good
-  abbrev Reads : Reader → Type 0
+  abbrev Reads : ContractReader → Type 0
   Reads contract = (ns : List NodeEntry) (b w : ℕ) (a : State) → w ≤ 1000 → Good s K F ds ns 0 0 a → Ends (Good s K F ds ns 0 0) (contract b w a)
 
-  module _ (contract : Reader) (reads : Reads contract) (ns : List NodeEntry) where
+  module _ (contract : ContractReader) (reads : Reads contract) (ns : List NodeEntry) where
     weighed-good : (b sum n : ℕ) (a : State) → Good s K F ds ns 0 0 a → Ends (Good s K F ds ns 0 0) (weighedAt s contract b sum n a)
     unfolding weighedAt
     weighed-good b sum zero a g = good g
@@ -195,7 +195,7 @@ module _ (s : List ℕ) (K F d S : ℕ) (ds : List DefEntry) (few : S ≤ 8) (la
         word-goes g₂ _ λ w e₃ n g₃.
         action-good _ (record { there = l; its = q; signers = leb-false _ _ z; opens = k }) _ _ w g₃
 
-  with-good : (inside : ℕ → Reader) → ((p : ℕ) → Reads (inside p)) → Reads (contractWith s inside)
+  with-good : (inside : ℕ → ContractReader) → ((p : ℕ) → Reads (inside p)) → Reads (contractWith s inside)
   unfolding contractWith
   with-good inside r ns b w a i g = word-goes g _ λ v e j g₁. ends-test _ _ _ (λ z. r (a .at) ns b w (toPlace a e) i g₁) (λ z. refused)
 

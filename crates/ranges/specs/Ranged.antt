@@ -6,7 +6,7 @@ use lib.ListN.{length, getD}
 use Rattle.bitml.specs.Lists.{sum, below}
 use Rattle.tables.specs.Entries.{NodeEntry, BranchEntry, Entries}
 use Rattle.tables.specs.SheetOf.{nodeEntryAt, branchEntryAt, defEntryAt, cellAt}
-use Rattle.reader.specs.Promises.{Limits}
+use Rattle.reader.specs.Promises.{Sizes}
 
 -- "Numbers of participants, definitions, secrets .. count from 0": n numbers are listed from `first` on, each the number of one of m
 pub record Below (m : ℕ) (listed : List ℕ) (first n : ℕ) : Type 0 where
@@ -50,7 +50,7 @@ pub record DefRange (K : ℕ) (listed : List ℕ) (first secrets : ℕ) : Type 0
 
 -- All of a sheet with K participants. "`k`,number up to 1,000,000,000" bounds the cells of conditions
 pub record Ranged (K : ℕ) (E : Entries) : Type 0 where
-  pub limits : Limits K E
+  pub limits : Sizes K E
   pub node : (n : ℕ) → n < length (E .nodes) → NodeRange (length (E .defs)) (nodeEntryAt E n)
   pub branch : (b : ℕ) → b < length (E .branches) → BranchRange K (length (E .defs)) E (branchEntryAt E b)
   pub def : (d : ℕ) → d < length (E .defs) → DefRange K (E .listed) (defEntryAt E d .first) (defEntryAt E d .secrets)

@@ -22,7 +22,7 @@ use Rattle.requests.specs.declared.Part.the-variants as part
 use Rattle.requests.specs.declared.RowLine.{RowLine}
 use Rattle.requests.specs.declared.RowLine.the-variants as line
 use Rattle.bitml.specs.Rows.{Row}
-use Rattle.requests.specs.Rows.{countIn, rowNumbersAt, rowAt, Rows, rowsWith, withLine, mostRows, rowsFrom, rowsAt, rowsOf, Holds}
+use Rattle.requests.specs.Rows.{countIn, rowNumbersAt, rowAt, Rows, rowsWith, withLine, mostRows, rowsFrom, rowsAt, rowsOf, RowsHeld}
 use Rattle.requests.proofs.Sound.{rows-count}
 use Rattle.reader.specs.declared.Request.{Request}
 use Rattle.reader.specs.declared.Request.the-variants as code
@@ -68,7 +68,7 @@ rows-held s t at =
 
 -- ---- the last part
 
-module _ (s t : List ℕ) (p from n : ℕ) (g : Got) (u₀ u : List ℕ) (h : Holds (rowsAt s (countIn t) (getD t 2 0) from) g u₀ u) where
+module _ (s t : List ℕ) (p from n : ℕ) (g : Got) (u₀ u : List ℕ) (h : RowsHeld (rowsAt s (countIn t) (getD t 2 0) from) g u₀ u) where
   pub check-is : (e : ℕ) → g ≡ Value n e → answered (code.Check p n) t u ≡ fromPart s (people t) (held t) (part.Check p from)
   unfolding answered fromPart fromRows
   check-is e i =

@@ -12,7 +12,7 @@ use Rattle.tables.specs.SheetOf.{nodeEntryAt, branchEntryAt, defEntryAt, listed
 
 -- "K participants (1 to 16), F definitions (1 to 32)"; "512 nodes, 1,024 branches". Of each definition at most 16 deposits and 8 owners are
 -- listed, and of each branch 8 secrets; a field of a condition has a cell, and there are fewer fields than "32,768 bytes"
-pub record Limits (K : ℕ) (E : Entries) : Type 0 where
+pub record Sizes (K : ℕ) (E : Entries) : Type 0 where
   pub people : (1 ≤ K) × (K ≤ 16)
   pub defs : (1 ≤ length (E .defs)) × (length (E .defs) ≤ 32)
   pub nodes : length (E .nodes) ≤ 512
@@ -106,7 +106,7 @@ pub record Nesting (E : Entries) : Type 0 where
 
 -- All that is promised of a sheet with K participants. "`k`,number up to 1,000,000,000" bounds the cells of conditions
 pub record Promises (K : ℕ) (E : Entries) : Type 0 where
-  pub limits : Limits K E
+  pub limits : Sizes K E
   pub node : (n : ℕ) → n < length (E .nodes) → NodePromise E n
   pub branch : (b : ℕ) → b < length (E .branches) → BranchPromise K E b
   pub def : (d : ℕ) → d < length (E .defs) → DefPromise K E d

@@ -15,7 +15,7 @@ use Rattle.fields.specs.declared.Got.the-variants.{Value, Bad}
 use Rattle.tables.specs.Entries.{firstOf}
 use Rattle.requests.specs.Part.{mostValue, valueAt, pastOf, pastValueAt, pastValuesAt}
 use Rattle.bitml.specs.Rows.{Row}
-use Rattle.requests.specs.Rows.{mostRows, row, rowIn, rowsOf, pastRows, Rows, rowsWith, rowAt, noRoomAt, withLine, rowsFrom, Holds}
+use Rattle.requests.specs.Rows.{mostRows, row, rowIn, rowsOf, pastRows, Rows, rowsWith, rowAt, noRoomAt, withLine, rowsFrom, RowsHeld}
 use Rattle.requests.specs.declared.RowLine.{RowLine}
 use Rattle.tables.proofs.Laws.{run-3, sets-before, sets-at, firstOf-length, firstOf-more}
 use Rattle.requests.specs.declared.Commitment.the-variants as commitment
@@ -117,5 +117,5 @@ unfolding rowsOf
 rows-length n u = firstOf-length (rowIn u) n
 
 -- what the buffer holds where the reading ends
-pub holds : (want : Rows) (r : Got) (u₀ u : List ℕ) (i : ℕ) → rowsWith (rowsOf i u) r ≡ want → pastRows i u ≡ pastRows i u₀ → Holds want r u₀ u
+pub holds : (want : Rows) (r : Got) (u₀ u : List ℕ) (i : ℕ) → rowsWith (rowsOf i u) r ≡ want → pastRows i u ≡ pastRows i u₀ → RowsHeld want r u₀ u
 holds want r u₀ u i e d = rw (← e) (record { answer = refl; rows = rw (rows-length i u); rest = rw (rows-length i u) d })

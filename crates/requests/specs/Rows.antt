@@ -88,7 +88,7 @@ unfoldable pub rowsAt : List ℕ → (ℕ → ℕ) → ℕ → ℕ → Rows
 rowsAt s counts nodes at = rowsFrom s counts nodes mostRows [] at
 
 -- the answer is what was read, and a buffer that was u₀ has become u: the rows "as given", and past them what it held
-pub record Holds (want : Rows) (r : Got) (u₀ u : List ℕ) : Type 0 where
+pub record RowsHeld (want : Rows) (r : Got) (u₀ u : List ℕ) : Type 0 where
   pub answer : r ≡ want .answer
   pub rows : rowsOf (length (want .rows)) u ≡ want .rows
   pub rest : pastRows (length (want .rows)) u ≡ pastRows (length (want .rows)) u₀

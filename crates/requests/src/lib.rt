@@ -12,7 +12,7 @@ ghost use mathlib.Core.List.{[], _∷_, _++_};
 ghost use Prim.Native.Nat.{_+_, _≤_, _<_};
 ghost use lib.ListN.{length};
 ghost use Rattle.requests.specs.Part.{lastPartAt, makeAt, checkAt, playAt, participantAt, valueAt, pastValueAt, pastValuesAt};
-ghost use Rattle.requests.specs.Rows.{countIn, rowAt, rowNumbersAt, noRoomAt, rowsOf, pastRows, row, rowsAt, Holds};
+ghost use Rattle.requests.specs.Rows.{countIn, rowAt, rowNumbersAt, noRoomAt, rowsOf, pastRows, row, rowsAt, RowsHeld};
 ghost use Rattle.tables.specs.Entries.{tableLong};
 
 const MAKE: usize = ((b'm' as usize * 256 + b'a' as usize) * 256 + b'k' as usize) * 256
@@ -283,7 +283,7 @@ pub fn rows(s: &[u8], from: usize, t: &[usize], nodes: usize, buffer: &mut [usiz
     requires { ⌜ tableLong ≤ length (now t) ⌝ }
     requires { ⌜ nodes ≤ 512 ⌝ }
     requires { ⌜ 1536 ≤ length (now buffer) ⌝ }
-    ensures { λ r. ⌜ Holds (rowsAt (now (s .entry)) (countIn (now (t .entry))) nodes from) r (now (buffer .entry)) (now (buffer .exit)) ⌝ }
+    ensures { λ r. ⌜ RowsHeld (rowsAt (now (s .entry)) (countIn (now (t .entry))) nodes from) r (now (buffer .entry)) (now (buffer .exit)) ⌝ }
 {
     let mut at = from;
     let mut i = 0;

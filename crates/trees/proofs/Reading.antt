@@ -10,7 +10,7 @@ use Rattle.tables.specs.State.{State, entries, withNode, withBranch, nodeEntry}
 use Rattle.steps.specs.Steps.{Outcome, toPlace, twice, times}
 use Rattle.conditions.specs.Condition.{storeAt, constantAt, clausesAt, secretAt, operandsAt, expressionWith, expressionIn, expressionAt, conditionWith, conditionIn, conditionAt}
 use Rattle.contracts.specs.declared.Limits.{Limits}
-use Rattle.contracts.specs.Contract.{Reader, holdAt, leafAt, weighedAt, splitAt, listAt, openAt, revealAt, contractWith, actionAt, branchAt, insideAt, contractAt}
+use Rattle.contracts.specs.Contract.{ContractReader, holdAt, leafAt, weighedAt, splitAt, listAt, openAt, revealAt, contractWith, actionAt, branchAt, insideAt, contractAt}
 use Rattle.trees.specs.Tree.{Kind, one, many, parts, Tree, pay, renew, split, reveal, end, also, last, weigh, Contract, size, weights, Weighed}
 use Rattle.trees.specs.Listing.{Listing, listingOf, addNode, addBranch, headOf, splitEntry, revealEntry, write, writeContract}
 use Rattle.steps.proofs.Ends.{Ends, good, refused, ends-map, ends-go, ends-either, ends-test, ends-then}
@@ -99,10 +99,10 @@ pub record Holds (d b w : ℕ) (l : Listing) (a′ : State) : Type 0 where
   pub weighed : Weighed tree
   pub same : listing a′ ≡ writeContract d b w tree l
 
-abbrev pub Reads : ℕ → Reader → Type 0
+abbrev pub Reads : ℕ → ContractReader → Type 0
 Reads d contract = (b w : ℕ) (a : State) → Few a → Ends (Holds d b w (listing a)) (contract b w a)
 
-module _ (s : List ℕ) (lim : Limits) (contract : Reader) (reads : Reads (lim .def) contract) where
+module _ (s : List ℕ) (lim : Limits) (contract : ContractReader) (reads : Reads (lim .def) contract) where
   -- n parts, after weights of a sum
   abbrev Parts : ℕ → ℕ → Tree parts → Type 0
   Parts sum n ps = (size ps ≡ n) × (0 < n → 0 < sum + weights ps)
@@ -201,7 +201,7 @@ module _ (s : List ℕ) (lim : Limits) (contract : Reader) (reads : Reads (lim .
       }
 
 module _ (s : List ℕ) (lim : Limits) where
-  with-reads : (inside : ℕ → Reader) → ((p : ℕ) → Reads (lim .def) (inside p)) → Reads (lim .def) (contractWith s inside)
+  with-reads : (inside : ℕ → ContractReader) → ((p : ℕ) → Reads (lim .def) (inside p)) → Reads (lim .def) (contractWith s inside)
   unfolding contractWith
   with-reads inside h b w a f = ends-go _ _ _ λ v e. ends-either _ _ _ (h _ b w (toPlace a e) f) refused
 

@@ -3,7 +3,7 @@ use mathlib.Core.Path.{_≡_, refl, sym, ap, ap₂, _∙_, subst}
 use Prim.Native.Nat.{ℕ, _-_, _≤_, _<_, _+_}
 use native.Mathlib.Omega.{arith}
 use mathlib.Core.Bool.{Bool, true, false, cond}
-use mathlib.Core.List.{List, [], _∷_, _++_, map, append-nil}
+use mathlib.Core.List.{List, [], _∷_, _++_, map}
 use lib.ListN.{length, take, drop, replicate, length-append}
 use lib.Seq.{length-take-le, take-append-seam, drop-append-seam}
 use lib.Dec.{eqb}
@@ -25,7 +25,7 @@ use Rattle.plays.specs.Values.{valuesOf}
 use Rattle.plays.specs.Events.{eventsOf}
 use Rattle.plays.specs.Played.{playedFor}
 use Rattle.bitml.specs.Rule.{Verdict, liquid, frozen, make}
-use Rattle.texts.proofs.Texts.{lines-append}
+use Rattle.texts.proofs.Texts.{lines-append, one-line}
 use Rattle.bitml.specs.Rows.{check}
 use Rattle.reader.specs.Request.{Reading, request, readRequest}
 use Rattle.reader.specs.Request.{refused as unread}
@@ -99,10 +99,6 @@ text-some (frozenLine p n) = line-some _ _
 text-some (refusedLine n l f) = line-some _ _
 text-some takenLine = line-some _ _
 text-some (endLine t n ps) = line-some _ _
-
-one-line : (l : Line) → linesText (l ∷ []) ≡ lineText l
-unfolding linesText
-one-line l = append-nil (lineText l)
 
 lines-some : (ls : List Line) (l : Line) → 0 < length (linesText (ls ++ (l ∷ [])))
 lines-some ls l =

@@ -63,7 +63,7 @@ fn judged(s: &[u8], rows: &mut [usize], text: &mut [u8]) -> Reply
 }
 
 // The same of any request and any text buffer. The caller has places for so many rows, three numbers each, and lends them as numbers.
-pub fn judge_in(s: &[u8], room: usize, numbers: &mut [usize], text: &mut [u8]) -> Reply
+fn judge_in(s: &[u8], room: usize, numbers: &mut [usize], text: &mut [u8]) -> Reply
     requires { ⌜ (512 ≤ room → 1536 ≤ length (now numbers)) ⌝ }
     ensures { λ r. ⌜ r ≡ replyOf (answerTo (now (s .entry)) room (length (now (text .entry)))) ⌝ }
     ensures { λ r. ⌜ now (numbers .exit) ≡ numbersOf (length (now (numbers .entry))) (answerTo (now (s .entry)) room (length (now (text .entry)))) ⌝ }

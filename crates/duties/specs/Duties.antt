@@ -44,6 +44,7 @@ given (suc v) = the v
 abbrev pub committed : List ℕ → List (Option ℕ)
 committed vs = map given vs
 
+-- its state, which nobody has told yet
 unfoldable pub stateOf : ℕ → ℕ
 stateOf zero = 0
 stateOf (suc v) = 1

@@ -11,6 +11,7 @@ use Rattle.ledger.specs.declared.Ledger.{Ledger}
 use Rattle.ledger.specs.View.{view}
 use Rattle.ledger.specs.Fit.{Fit}
 
+-- the same ledger with another answer
 abbrev pub withAnswer : Ledger → ℕ → Ledger
 withAnswer l n =
     record {

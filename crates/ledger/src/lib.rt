@@ -29,7 +29,6 @@ ghost use Rattle.bitml.specs.Ledger.{wait, sign, tell, fire};
 ghost use Rattle.tables.specs.Entries.{held, people};
 ghost use Rattle.tables.specs.SheetOf.{branchEntryAt, defEntryAt, partCount};
 ghost use Rattle.sheets.specs.Ready.{Ready, Indexed};
-ghost use Rattle.duties.specs.Duties.{weightOf};
 ghost use Rattle.ledger.specs.View.{liveOf};
 ghost use Rattle.ledger.specs.Fit.{Fit};
 ghost use Rattle.ledger.specs.Does.{Does, Begins, renewal};

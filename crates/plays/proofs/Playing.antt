@@ -2,7 +2,7 @@
 use mathlib.Core.Path.{_≡_, sym, ap₂, subst}
 use mathlib.Core.Option.{Option}
 use mathlib.Core.Bool.{Bool, true, false}
-use mathlib.Core.List.{List, [], _∷_, append-nil}
+use mathlib.Core.List.{List, [], _∷_}
 use Prim.Native.Nat.{ℕ, zero, suc, _+_, _≤_}
 use native.Mathlib.Omega.{arith}
 use lib.ListN.{length, replicate}
@@ -15,6 +15,7 @@ use Rattle.exits.specs.Made.{filled}
 use Rattle.texts.specs.Text.{lineText, linesText}
 use Rattle.texts.specs.Wrote.{Wrote}
 use Rattle.texts.proofs.Writing.{wrote-then}
+use Rattle.texts.proofs.Texts.{one-line}
 use Rattle.texts.proofs.Lengths.{answer-short}
 use Rattle.replies.specs.Answer.{Gives}
 use Rattle.replies.proofs.Giving.{gives-printed}
@@ -68,7 +69,7 @@ module _ {u₀ whole u v : List ℕ} {a b c : ℕ} (s : Sheet) (l : Ledger) (k :
 
   pub leads-end : Leads u₀ a whole u b (playText s l k []) → Wrote u b (lineText (endOf l)) v c → Wrote u₀ a whole v c
   unfolding playLines eventLines answers limitedPlay linesText
-  leads-end t x = t .done v c (subst (λ zs. Wrote u b zs v c) (sym (append-nil (lineText (endOf l)))) x)
+  leads-end t x = t .done v c (subst (λ zs. Wrote u b zs v c) (sym (one-line (endOf l))) x)
 
 -- the whole text is the answer
 pub play-gives : (s : Sheet) (vs : List (Option ℕ)) (es : List Event) (l : Ledger) (first n m k : ℕ) (u z b : List ℕ) → l ≡ stipulated s vs → first ≡ length (s .defs) + 3

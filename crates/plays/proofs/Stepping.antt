@@ -3,11 +3,11 @@ use mathlib.Core.Path.{_≡_, refl, sym, ap, ap₂, _∙_, subst}
 use Prim.Native.Nat.{ℕ, suc, _+_, _-_, _*_, _≤_, _<_}
 use native.Mathlib.Omega.{arith}
 use native.Mathlib.Numerals.{add-one}
-use mathlib.Core.List.{List, [], _∷_}
+use mathlib.Core.List.{List, _∷_}
 use lib.ListN.{length, getD, take}
 use lib.Seq.{ext-getD, length-take-le, getD-take}
 use Rattle.bitml.specs.Ledger.{Event, wait, sign, tell, fire, renew}
-use Rattle.bitml.specs.Limits.{limitedRefusal, limitedStep}
+use Rattle.bitml.specs.Limits.{limitedRefusal}
 use Rattle.bitml.specs.Answers.{takenLine, endLine, orRefused, endOf}
 use Rattle.sheets.specs.Ready.{Ready}
 use Rattle.ledger.proofs.Ending.{end-is}
@@ -31,14 +31,19 @@ use Rattle.texts.specs.Text.{lineText}
 use Rattle.texts.specs.Wrote.{Wrote}
 use Rattle.plays.specs.Values.{Valued}
 use Rattle.plays.specs.Events.{eventOf, eventsOf}
-use Rattle.plays.specs.Played.{Line}
 use Rattle.plays.proofs.Reading.{values-are}
 use Rattle.plays.proofs.Events.{events-none, next-read, event-read, events-more, events-good, line-within, line-long}
 use Rattle.plays.proofs.Playing.{answer-most, playText, Leads, leads-all, leads-more, leads-end}
 
 -- ---- an event line
 
-module _ (s : List ℕ) (people at : ℕ) (x : read.Event) (l : Line s people at x) where
+-- x is the event line that starts at `at`, and this line and those behind it can be read
+pub record EventLine (s : List ℕ) (people at : ℕ) (x : read.Event) : Type 0 where
+  pub more : at < length s
+  pub good : eventsAt s people at ≡ lines.Good
+  pub read : x ≡ eventAt s people at
+
+module _ (s : List ℕ) (people at : ℕ) (x : read.Event) (l : EventLine s people at x) where
   sound : (y : read.Event) → x ≡ y → Sound s people at y
   sound y h = subst (Sound s people at) (sym (l .read) ∙ h) (event-sound s people at)
 
@@ -142,7 +147,7 @@ module _ (s t : List ℕ) (from first : ℕ) (text₀ : List ℕ) (l₀ : Ledger
         w
 
     module _ (more : at < length s) (x : read.Event) (rd : x ≡ eventAt s (people t) at) where
-      pub goes-line : Line s (people t) at x
+      pub goes-line : EventLine s (people t) at x
       goes-line = record { more = more; good = g .good; read = rd }
 
       -- the line's end: what `next` says of a line that can be read

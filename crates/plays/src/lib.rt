@@ -18,25 +18,23 @@ use texts::clear;
 use texts::put_answer;
 use texts::put_end;
 ghost use mathlib.Core.Path.{_≡_};
-ghost use Prim.Native.Nat.{ℕ, _+_, _≤_};
+ghost use Prim.Native.Nat.{_+_, _≤_};
 ghost use lib.ListN.{length};
 ghost use Rattle.bitml.specs.Answers.{endOf, playLines};
-ghost use Rattle.fields.specs.declared.Got.the-variants.{Value as read};
 ghost use Rattle.tables.specs.Entries.{held, people};
 ghost use Rattle.tables.specs.SheetOf.{sheetIn, defEntryAt};
-ghost use Rattle.events.specs.Events.{nextOf, eventsAt};
+ghost use Rattle.events.specs.Events.{eventsAt};
 ghost use Rattle.events.specs.declared.Lines.the-variants.{Good};
 ghost use Rattle.promises.specs.Parts.{PlayPromise};
 ghost use Rattle.sheets.specs.Ready.{Ready, Indexed};
 ghost use Rattle.ledger.specs.View.{view};
 ghost use Rattle.ledger.specs.Fit.{Fit};
-ghost use Rattle.ledger.specs.Does.{Does};
 ghost use Rattle.texts.specs.Text.{lineText, linesText};
 ghost use Rattle.texts.specs.Wrote.{Wrote};
 ghost use Rattle.replies.specs.Answer.{Gives, leastText};
 ghost use Rattle.plays.specs.Values.{valuesOf, Valued, Read};
-ghost use Rattle.plays.specs.Events.{eventOf, eventsOf};
-ghost use Rattle.plays.specs.Played.{playedFor, Line};
+ghost use Rattle.plays.specs.Events.{eventsOf};
+ghost use Rattle.plays.specs.Played.{playedFor};
 
 // A value as one number, 0 for `x`, else one more than it; and the position after its field.
 pub struct Value {

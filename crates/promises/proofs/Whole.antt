@@ -12,14 +12,12 @@ use Rattle.lines.specs.Sheet.{SheetRead, accepted, readSheet}
 use Rattle.lines.specs.Sheet.{refused as unread}
 use Rattle.requests.specs.declared.Part.{Part}
 use Rattle.requests.specs.declared.Part.the-variants as part
-use Rattle.requests.specs.Part.{lastPartAt}
-use Rattle.requests.specs.Rows.{rowsAt}
 use Rattle.requests.proofs.Sound.{PartSound, part-sound, rows-fit}
 use Rattle.events.specs.declared.Lines.{Lines}
 use Rattle.events.specs.declared.Lines.the-variants as lines
 use Rattle.events.specs.Events.{eventsAt}
 use Rattle.reader.specs.Promises.{Promises}
-use Rattle.reader.specs.Request.{Reading, LastPart, request, refused, make, check, play, refusedAt, fromRows, fromLines, fromPart, fromSheet, readRequest}
+use Rattle.reader.specs.Request.{Reading, request, refused, refusedAt, fromRows, fromLines, fromPart, fromSheet, readRequest}
 use Rattle.promises.specs.Parts.{RowsPromise, PlayPromise, PartPromise}
 use Rattle.promises.specs.Texts.{Promised, PromisedWhole}
 use Rattle.promises.proofs.Promised.{promised}

@@ -2,7 +2,7 @@
 use Prim.Native.Nat.{ℕ, zero, suc, _+_, _-_, _<_, _≤_}
 use mathlib.Core.List.{List, [], _∷_, _++_}
 use mathlib.Core.Logic.{by-cases}
-use mathlib.Core.Path.{_≡_, refl, sym, ap, _∙_}
+use mathlib.Core.Path.{_≡_, refl}
 use native.Mathlib.Decide.{decLe}
 use native.Mathlib.Omega.{arith}
 use lib.Dec.{ltb, eqb}
@@ -10,12 +10,11 @@ use lib.ListN.{length, getD, length-append, List·getD-append}
 use lib.Seq.{getD-at}
 use Rattle.fields.proofs.Ranges.{after-cases, cond-cases, never, below-end, between-end, line-end-next}
 use Rattle.fields.specs.Field.{spelled, after, belowAt, betweenAt, firstAt, lineEndAt}
-use Rattle.fields.specs.declared.Got.{Got}
 use Rattle.fields.specs.declared.Got.the-variants.{Value, Bad}
 use Rattle.requests.proofs.Laws.{past-end}
 use Rattle.requests.specs.Part.{participantAt, pastValueAt, pastValuesAt, makeAt, checkAt, playAt, lastPartAt}
 use Rattle.bitml.specs.Rows.{Row}
-use Rattle.requests.specs.Rows.{mostRank, mostRows, row, rowIn, rowsOf, RowFits, Rows, rowsWith, rowNumbersAt, rowAt, noRoomAt, withLine, rowsFrom, rowsAt}
+use Rattle.requests.specs.Rows.{mostRank, mostRows, row, RowFits, Rows, rowsWith, rowNumbersAt, rowAt, noRoomAt, withLine, rowsFrom, rowsAt}
 use Rattle.requests.specs.declared.Part.{Part}
 use Rattle.requests.specs.declared.RowLine.{RowLine}
 use Rattle.requests.specs.declared.Part.the-variants as part

@@ -11,7 +11,7 @@ use Rattle.bitml.specs.Rows as bitml
 use Rattle.bitml.specs.Rows.{Row, rankOf}
 use Rattle.tables.specs.Entries.{Entries, held}
 use Rattle.tables.specs.SheetOf.{sheetOf, branchOf, branchNumber, branchNumbers, partNumbers}
-use Rattle.requests.specs.Rows.{RowFits, countIn, rowIn, rowsOf, mostRank, mostRows}
+use Rattle.requests.specs.Rows.{RowFits, countIn, rowIn, mostRank, mostRows}
 use Rattle.exits.specs.Made.{filled}
 use Rattle.rows.specs.declared.Fault.{Fault}
 use Rattle.rows.specs.declared.Checked.{Checked}

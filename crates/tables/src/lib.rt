@@ -135,13 +135,6 @@ impl Action {
     pub const RENEW: usize = 3;
 }
 
-// How many cells a lent table must have.
-pub fn table_cells() -> usize
-    ensures { λ r. ⌜ r ≡ tableLong ⌝ }
-{
-    Sheet::TABLE
-}
-
 // A node more.
 pub fn put_node(
     t: &mut [usize],

@@ -1,15 +1,14 @@
 -- The parts of a line. Assumes nothing.
 use mathlib.Core.Path.{_≡_, refl, sym, ap, _∙_, subst}
-use Prim.Native.Nat.{ℕ, zero, suc, _+_, _*_, _/_, _%_, _^_, _≤_, _<_}
+use Prim.Native.Nat.{ℕ, zero, suc, _+_, _/_, _%_, _^_, _≤_, _<_}
 use native.Mathlib.Omega.{arith}
 use native.Mathlib.Numerals.{add-one}
 use mathlib.Core.Bool.{Bool, true, false, cond}
 use mathlib.Core.List.{List, [], _∷_, _++_, map, map-append, append-nil, append-assoc}
-use lib.ListN.{length, take, drop, getD, length-append}
-use lib.Seq.{take-suc, take-all, getD-drop}
+use lib.ListN.{length, take, getD, length-append}
+use lib.Seq.{take-suc, take-all}
 use lib.Dec.{ltb}
 use borrow.Author.Tests.{lt-ltb, le-ltb}
-use Rattle.bitml.specs.Rows.{Row}
 use Rattle.bitml.specs.Answers.{Line, rowLine, refusedLine, takenLine, endLine, orRefused}
 use Rattle.texts.specs.Text.{digits, decimal, letters, field, fields, line, lineText, linesText}
 use Rattle.requests.specs.Rows.{rowIn, rowsOf}
@@ -116,6 +115,10 @@ unfolding linesText
 lines-append [] ys = refl
 lines-append (x ∷ xs) ys = ap (λ zs. lineText x ++ zs) (lines-append xs ys) ∙ sym (append-assoc (lineText x) (linesText xs) (linesText ys))
 
+pub one-line : (l : Line) → linesText (l ∷ []) ≡ lineText l
+unfolding linesText
+one-line l = append-nil (lineText l)
+
 abbrev pub rowsText : ℕ → List ℕ → List ℕ
 rowsText n u = linesText (map rowLine (rowsOf n u))
 
@@ -125,7 +128,7 @@ row-more i u =
     ap (λ rs. linesText (map rowLine rs)) (rows-next u i)
     ∙ ap linesText (map-append rowLine (rowsOf i u) (rowIn u i ∷ []))
     ∙ lines-append (map rowLine (rowsOf i u)) (rowLine (rowIn u i) ∷ [])
-    ∙ ap (λ zs. rowsText i u ++ zs) (append-nil (lineText (rowLine (rowIn u i))))
+    ∙ ap (λ zs. rowsText i u ++ zs) (one-line (rowLine (rowIn u i)))
 
 pub wrote-no-row : (u : List ℕ) (a : ℕ) (rows : List ℕ) → Wrote u a (rowsText 0 rows) u a
 unfolding linesText

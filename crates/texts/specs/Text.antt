@@ -20,10 +20,12 @@ decimal n = digits 20 n
 
 -- ---- a line
 
+-- a word's bytes
 abbrev pub letters : String → List ℕ
 letters ended = []
 letters (c then w) = code c ∷ letters w
 
+-- fields, each behind its comma
 unfoldable pub field : ℕ → List ℕ
 field n = code "," ∷ decimal n
 

@@ -1,10 +1,10 @@
 -- The text and the rows of a verdict are those of the definition. Assumes nothing.
-use mathlib.Core.Path.{_≡_, refl, sym, ap, ap₂, _∙_, subst}
-use Prim.Native.Nat.{ℕ, suc, _+_, _-_, _*_, _≤_, _<_}
+use mathlib.Core.Path.{_≡_, sym, ap, ap₂, _∙_, subst}
+use Prim.Native.Nat.{ℕ, suc, _+_, _-_, _*_, _≤_}
 use native.Mathlib.Omega.{arith}
 use mathlib.Core.Bool.{Bool, true, false, cond}
-use mathlib.Core.List.{List, [], _∷_, _++_, map, append-nil}
-use lib.ListN.{length, take, drop, replicate, length-map}
+use mathlib.Core.List.{List, [], _∷_, _++_, map}
+use lib.ListN.{length, replicate, length-map}
 use lib.Dec.{eqb}
 use Rattle.bitml.specs.Lists.{ask, keep, below}
 use Rattle.bitml.specs.Sheet.{Sheet, defAt}
@@ -12,12 +12,12 @@ use Rattle.bitml.specs.Rows.{Row, Fault, has, rankOf, orElse, repeated, rowFaul
 use Rattle.bitml.specs.Rule.{Verdict, liquid, frozen, verdict, stuck, rows, rowFor, reached, make}
 use Rattle.bitml.proofs.Lists.{length-up}
 use Rattle.bitml.specs.Answers.{rowLine, liquidLine, frozenLine, liquidBy, madeLines}
-use Rattle.tables.specs.Entries.{Entries, held, people}
-use Rattle.tables.specs.SheetOf.{sheetOf, sheetIn}
+use Rattle.tables.specs.Entries.{held, people}
+use Rattle.tables.specs.SheetOf.{sheetIn}
 use Rattle.tables.proofs.SheetOf.{keep-le, root-is, nodes-are}
 use Rattle.requests.specs.Rows.{rowsOf}
 use Rattle.sheets.specs.Ready.{Ready}
-use Rattle.exits.specs.Made.{flat, filled, answerOf, bufferOf}
+use Rattle.exits.specs.Made.{filled, answerOf, bufferOf}
 use Rattle.exits.specs.declared.Verdict.the-variants.{Liquid, Frozen}
 use Rattle.rows.specs.Given.{answerOf as answerOfRows, bufferOf as bufferOfRows}
 use Rattle.rows.specs.declared.Checked.the-variants as checked
@@ -25,7 +25,7 @@ use Rattle.rows.proofs.Buffer.{rows-filled}
 use Rattle.texts.specs.Text.{lineText, linesText}
 use Rattle.texts.specs.Wrote.{Wrote}
 use Rattle.texts.proofs.Writing.{wrote-then}
-use Rattle.texts.proofs.Texts.{lines-append}
+use Rattle.texts.proofs.Texts.{lines-append, one-line}
 use Rattle.replies.specs.declared.Reply.{Reply}
 use Rattle.replies.specs.Answer.{Gives, refused, printed}
 use Rattle.replies.proofs.Giving.{gives-printed, gives-refused}
@@ -44,10 +44,10 @@ module _ (s : Sheet) (p : ℕ) (first : defAt s 0 .root ≡ 0) where
   unfolding liquidBy
   line-is R = ap (λ m. liquidLine p (length R) (rankOf R m)) (sym first)
 
-  one-line : (R : List Row) (k : ℕ) (z b : List ℕ) → Wrote z 0 (lineText (liquidLine p (length R) (rankOf R 0))) b k
+  liquid-line : (R : List Row) (k : ℕ) (z b : List ℕ) → Wrote z 0 (lineText (liquidLine p (length R) (rankOf R 0))) b k
       → Wrote z 0 (linesText (liquidBy s p R ∷ [])) b k
   unfolding linesText
-  one-line R k z b w = subst (λ xs. Wrote z 0 xs b k) (ap lineText (line-is R) ∙ sym (append-nil (lineText (liquidBy s p R)))) w
+  liquid-line R k z b w = subst (λ xs. Wrote z 0 xs b k) (ap lineText (line-is R) ∙ sym (one-line (liquidBy s p R))) w
 
   made-lines : (R : List Row) → linesText (map rowLine R) ++ linesText (liquidBy s p R ∷ []) ≡ linesText (madeLines s p (liquid R))
   unfolding madeLines
@@ -62,7 +62,7 @@ module _ (s : Sheet) (p : ℕ) (first : defAt s 0 .root ≡ 0) where
         let c : count ≡ length R = cc in
         let r : rank ≡ rankOf R 0 = cc in
         let g : rowsOf count u ≡ R = ap₂ rowsOf c f ∙ rows-filled n R h in
-        let y : lineText (liquidLine p count rank) ≡ linesText (liquidBy s p R ∷ []) = ap₂ (λ i j. lineText (liquidLine p i j)) c r ∙ ap lineText (line-is R) ∙ sym (append-nil (lineText (liquidBy s p R))) in
+        let y : lineText (liquidLine p count rank) ≡ linesText (liquidBy s p R ∷ []) = ap₂ (λ i j. lineText (liquidLine p i j)) c r ∙ ap lineText (line-is R) ∙ sym (one-line (liquidBy s p R)) in
         gives-printed (madeLines s p (liquid R)) R n m k u z b′ clear
         (subst (λ xs. Wrote z 0 xs b′ k) (ap₂ (λ Q xs. linesText (map rowLine Q) ++ xs) g y ∙ made-lines R) (wrote-then w x))
         f
@@ -73,7 +73,7 @@ module _ (s : Sheet) (p : ℕ) (first : defAt s 0 .root ≡ 0) where
     frozen-gives x b k node l f w =
         let c : node ≡ x = cc in
         gives-printed (frozenLine p x ∷ []) [] n m k u z b clear
-        (subst (λ xs. Wrote z 0 xs b k) (ap (λ i. lineText (frozenLine p i)) c ∙ sym (append-nil (lineText (frozenLine p x)))) w)
+        (subst (λ xs. Wrote z 0 xs b k) (ap (λ i. lineText (frozenLine p i)) c ∙ sym (one-line (frozenLine p x))) w)
         f
 
     -- by the verdict that was found
@@ -115,7 +115,7 @@ module _ (s : Sheet) (p : ℕ) (first : defAt s 0 .root ≡ 0) where
             let c : count ≡ length R = cc in
             let r : rank ≡ rankOf R 0 = cc in
             gives-printed (liquidBy s p R ∷ []) R n m k u z b clear
-            (one-line R k z b (subst (λ xs. Wrote z 0 xs b k) (ap₂ (λ i j. lineText (liquidLine p i j)) c r) w)) g
+            (liquid-line R k z b (subst (λ xs. Wrote z 0 xs b k) (ap₂ (λ i j. lineText (liquidLine p i j)) c r) w)) g
         go false l g = let q : _≡_ {A = ℕ} 0 1 = cc in absurd (omega arith)
 
     -- a refusal is told at the line of its row

@@ -107,31 +107,42 @@ fn secret(s: &[u8], st: St, limit: usize, from: usize, t: &mut [usize]) -> Read
     Read::Bad(6, st.at)
 }
 
-// An expression, with so many words left to nest.
+// An expression, with so many words left to nest: of two, the first is read by itself, and the second is the next that is due.
 fn expression(s: &[u8], st: St, depth: usize, limit: usize, from: usize, t: &mut [usize]) -> Read
     requires { ⌜ tableLong ≤ length (now t) ⌝ }
     requires { ⌜ HasRoom (now s) st ⌝ }
     ensures { λ r. ⌜ Met (Kept (now (s .entry)) limit st) (expressionAt (now (s .entry)) limit from depth (stateOf st (now (t .entry)))) r (now (t .exit)) ⌝ }
 {
-    let g = letters(s, st);
-    let Read::Value(w, e) = g else {
-        return g;
-    };
-    let c = expression_cell(w);
-    if c == NONE {
-        return Read::Bad(3, st.at);
-    }
-    if depth == 0 {
-        return Read::Bad(7, st.at);
-    }
-    let h = store(e, st.at, limit, c, t);
-    let Read::Value(_, f) = h else {
-        return h;
-    };
-    match c {
-        Sheet::K => constant(s, f, limit, t),
-        Sheet::V => secret(s, f, limit, from, t),
-        _ => both_expressions(s, f, depth - 1, limit, from, t),
+    let mut cur = st;
+    let mut left = depth;
+    loop {
+        let g = letters(s, cur);
+        let Read::Value(w, e) = g else {
+            return g;
+        };
+        let c = expression_cell(w);
+        if c == NONE {
+            return Read::Bad(3, cur.at);
+        }
+        if left == 0 {
+            return Read::Bad(7, cur.at);
+        }
+        let h = store(e, cur.at, limit, c, t);
+        let Read::Value(_, f) = h else {
+            return h;
+        };
+        match c {
+            Sheet::K => return constant(s, f, limit, t),
+            Sheet::V => return secret(s, f, limit, from, t),
+            _ => {
+                left -= 1;
+                let i = expression(s, f, left, limit, from, t);
+                let Read::Value(_, q) = i else {
+                    return i;
+                };
+                cur = q;
+            }
+        }
     }
 }
 

@@ -9,7 +9,7 @@ use native.Mathlib.Omega.{arith}
 use lib.ListN.{length, getD, take, drop, drop-of-length-le, length-drop, length-take}
 use lib.Seq.{drop-cons}
 use lib.Dec.{ltb, leb, eqb, lit<}
-use borrow.Author.Tests.{eq-eqb, ne-eqb, le-leb, lt-leb, lt-ltb, leb-true, ltb-true}
+use borrow.Author.Tests.{eq-eqb, ne-eqb, le-leb, lt-leb, lt-ltb, leb-true, ltb-true, eqb-true}
 use Rattle.fields.specs.Field.{comma, lf, zeroDigit, nineDigit, isSep, fieldLen, allDigits, value, numberOf, numberAt, afterComma, upTo, textAt, endAt, packed, packedOf, wordFrom, wordAt}
 use Rattle.fields.specs.declared.Num.{Num}
 use Rattle.fields.specs.declared.Num.the-variants.{Is, Not}
@@ -88,6 +88,22 @@ fieldLen-le (b ∷ r) = pick (isSep b) (fieldLen-le r)
 
 pub end-within : (s : List ℕ) (p : ℕ) → p ≤ length s → p + fieldLen (drop p s) ≤ length s
 end-within s p h = omega (arith, fieldLen-le (drop p s), length-drop p s)
+
+-- a field of one byte, as a word
+one-byte : (b : ℕ) (r : List ℕ) → packedOf (take 1 (b ∷ r)) ≡ b
+unfolding packedOf packed
+one-byte b r = go (eqb b 0) refl
+  where
+    go : (t : Bool) → eqb b 0 ≡ t → cond t 0 (0 * 256 + b) ≡ b
+    go true e = sym (eqb-true b 0 e)
+    go false e = omega arith
+
+pub one-letter : (s : List ℕ) (p : ℕ) → p + 1 < length s → getD s (p + 1) 0 ≡ comma → (getD s p 0 ≡ comma → ⊥) → (getD s p 0 ≡ lf → ⊥) → Value (getD s p 0) (p + 1) ≡ wordFrom s p
+unfolding wordFrom endAt textAt
+one-letter s p h c n m =
+    let k : p < length s = omega arith in
+    let e : fieldLen (drop p s) ≡ 1 = fieldLen-more s p (omega arith) n m ∙ ap suc (fieldLen-comma s (p + 1) h c) in
+    rw (e, drop-cons s p 0, one-byte (getD s p 0) (drop (suc p) s))
 
 -- what is left to say of a number after its comma
 pub numberAt-go : (s : List ℕ) (at max e : ℕ) (n : Num) → at < length s → getD s at 0 ≡ comma → e ≡ at + 1 + fieldLen (drop (at + 1) s)

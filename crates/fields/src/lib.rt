@@ -180,6 +180,16 @@ fn word_from(s: &[u8], from: usize) -> Got
     requires { ⌜ from ≤ length (now s) ⌝ }
     ensures { λ r. ⌜ r ≡ wordFrom (now (s .entry)) from ⌝ }
 {
+    if 1 < s.len() - from {
+        if s[from + 1] == COMMA {
+            let b = s[from];
+            if b != COMMA {
+                if b != LF {
+                    return Got::Value(wide(b), from + 1);
+                }
+            }
+        }
+    }
     let end = field_end(s, from);
     Got::Value(packed_of(&s[from..end]), end)
 }

@@ -256,15 +256,16 @@ fn limit(s: &[u8], g: Read) -> Read
     if s.len() <= Sheet::BYTES {
         return g;
     }
-    let q = passing(s, Sheet::BYTES);
     match g {
         Read::Value(v, e) => {
             if e.at <= Sheet::BYTES {
                 return Read::Value(v, e);
             }
+            let q = passing(s, Sheet::BYTES);
             Read::Bad(7, q)
         }
         Read::Bad(n, p) => {
+            let q = passing(s, Sheet::BYTES);
             if p < q {
                 return Read::Bad(n, p);
             }

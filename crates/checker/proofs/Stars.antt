@@ -31,14 +31,14 @@ use Rattle.checker.specs.Stars.{printedFor, T, M, D, R, cases, Stars}
 
 pub stars : Stars
 unfolding Stars cases T M D R printedFor textIn refusedIn answerTo early judged answerFor
-    field.fieldLen field.textAt field.endAt field.allDigits field.value field.digitsOf field.numberOf field.numberAt field.packed field.packedOf field.wordFrom field.wordAt field.firstAt field.lineEndAt field.after field.belowAt field.betweenAt
+    field.fieldLen field.textAt field.endAt field.allDigits field.digitsOn field.digitsOf field.numberOf field.numberAt field.packed field.packedOf field.wordFrom field.wordAt field.firstAt field.lineEndAt field.whenRead field.belowAt field.betweenAt
     places.stepOf places.walk places.placeOf places.markOf places.lastFrom places.passingOf
     tables.branchNumbers tables.partNumbers tables.pickE tables.readE tables.pickC tables.readC tables.condAt tables.actionOf tables.branchOf tables.nodeOf tables.defOf tables.sheetOf
     state.among state.since
     steps.goOn steps.either steps.andThen steps.times
     conditions.storeAt conditions.constantAt conditions.clausesAt conditions.secretAt conditions.operandsAt conditions.expressionWith conditions.expressionIn conditions.expressionAt conditions.conditionWith conditions.conditionIn conditions.conditionAt
     words.pick words.conditionCell words.expressionCell
-    contracts.holdAt contracts.leafAt contracts.weighedAt contracts.splitAt contracts.listAt contracts.openAt contracts.revealAt contracts.contractWith contracts.actionAt contracts.branchAt contracts.insideAt contracts.contractAt
+    contracts.holdAt contracts.leafAt contracts.weighedAt contracts.splitAt contracts.listAt contracts.openAt contracts.revealAt contracts.contractWith contracts.actionAt contracts.readBranch contracts.insideAt contracts.readContract
     definitions.depositsAt definitions.ownerAt definitions.rootAt definitions.ownedAt definitions.defineAt
     line-one.countsAt line-one.lineOneAt
     sheet.beyond sheet.limited sheet.accept sheet.sheetFrom sheet.readSheet

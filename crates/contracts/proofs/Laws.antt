@@ -17,7 +17,7 @@ use Rattle.steps.specs.Steps.{next, bad, goOn, either, andThen, times}
 use Rattle.steps.proofs.Laws.{Took, Leads}
 use Rattle.conditions.specs.Condition.{conditionAt, HasRoom, Kept}
 use Rattle.contracts.specs.declared.Limits.{Limits}
-use Rattle.contracts.specs.Contract.{wWord, sWord, rWord, gWord, ContractReader, action, leafAt, weighedAt, splitAt, listAt, holdAt, openAt, revealAt, actionAt, branchAt, insideAt, contractAt}
+use Rattle.contracts.specs.Contract.{wWord, sWord, rWord, gWord, ContractReader, action, leafAt, weighedAt, splitAt, listAt, holdAt, openAt, revealAt, actionAt, readBranch, insideAt, readContract}
 use Rattle.contracts.specs.Counts.{Few, Added}
 
 -- ---- counts
@@ -124,8 +124,8 @@ module _ {P : St → Type 0} (s : List ℕ) where
     inside-none d p b w a h r t m = rw h m
 
     pub inside-more : (d p b w : ℕ) (a : State) → (d ≡ 0 → ⊥)
-        → Leads P (either (leb 512 (length (a .nodes))) (bad 7 p) (goOn a (numberAt s (a .at) 16) λ n a₁. times n (branchAt s lim (contractAt s lim (d - 1)) (length (a .nodes))) (withNode (nodeEntry (lim .def) b w n) a₁))) (insideAt s lim d p b w a)
-    unfolding insideAt contractAt
+        → Leads P (either (leb 512 (length (a .nodes))) (bad 7 p) (goOn a (numberAt s (a .at) 16) λ n a₁. times n (readBranch s lim (readContract s lim (d - 1)) (length (a .nodes))) (withNode (nodeEntry (lim .def) b w n) a₁))) (insideAt s lim d p b w a)
+    unfolding insideAt readContract
     inside-more zero p b w a h r t m = absurd (h refl)
     inside-more (suc d) p b w a h r t m = simp (sub-one) at m
 
@@ -164,7 +164,7 @@ module _ {P : St → Type 0} (s : List ℕ) where
 
 -- the branches begin, with the node stored
 pub begin : (s : List ℕ) (lim : Limits) (k : ContractReader) (n m i : ℕ) (t : List ℕ) (x a : State) → i ≡ m → x ≡ a
-    → times n (branchAt s lim k i) x ≡ times n (branchAt s lim k (length (nodesOf m t))) a
+    → times n (readBranch s lim k i) x ≡ times n (readBranch s lim k (length (nodesOf m t))) a
 begin s lim k n m i t x a h e = rw (nodes-length m t, h, e)
 
 -- the parts begin, with the branch stored

@@ -97,8 +97,8 @@ module _ (s : List ℕ) (lim : Limits) where
       (bad 3 p))))
 
   -- "branch: signers (2^K or more gets 6), opening time (0 to 4,294,967,295), an action"; "1,024 branches", 7 "at the signers field"
-  unfoldable pub branchAt : ContractReader → ℕ → State → Outcome
-  branchAt contract node a =
+  unfoldable pub readBranch : ContractReader → ℕ → State → Outcome
+  readBranch contract node a =
       goOn a (numberAt s (a .at) anyNumber) λ g a₁.
       either (leb (lim .all) g) (bad 6 (a .at))
       (either (leb 1024 (length (a .branches))) (bad 7 (a .at))
@@ -112,8 +112,8 @@ module _ (s : List ℕ) (lim : Limits) where
   insideAt (suc d) p b w a =
       either (leb 512 (length (a .nodes))) (bad 7 p)
       (goOn a (numberAt s (a .at) 16) λ n a₁.
-      times n (branchAt (contractWith s (insideAt d)) (length (a .nodes))) (withNode (nodeEntry (lim .def) b w n) a₁))
+      times n (readBranch (contractWith s (insideAt d)) (length (a .nodes))) (withNode (nodeEntry (lim .def) b w n) a₁))
 
   -- "contract: `c`, count of branches, the branches"
-  unfoldable pub contractAt : ℕ → ContractReader
-  contractAt d = contractWith s (insideAt d)
+  unfoldable pub readContract : ℕ → ContractReader
+  readContract d = contractWith s (insideAt d)

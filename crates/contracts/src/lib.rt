@@ -17,7 +17,7 @@ ghost use lib.ListN.{length};
 ghost use Rattle.tables.specs.State.{stateOf};
 ghost use Rattle.steps.specs.Steps.{Met, times};
 ghost use Rattle.conditions.specs.Condition.{HasRoom};
-ghost use Rattle.contracts.specs.Contract.{leafAt, listAt, contractAt, branchAt, splitAt, weighedAt, revealAt};
+ghost use Rattle.contracts.specs.Contract.{leafAt, listAt, readContract, readBranch, splitAt, weighedAt, revealAt};
 ghost use Rattle.contracts.specs.Counts.{Few, Added};
 ghost use Rattle.tables.specs.Entries.{tableLong};
 
@@ -121,7 +121,7 @@ pub fn contract(
 ) -> Read
     requires { ⌜ tableLong ≤ length (now t) ⌝ }
     requires { ⌜ Few (now s) lim st ⌝ }
-    ensures { λ r. ⌜ Met (Few (now (s .entry)) lim) (contractAt (now (s .entry)) lim depth parent weight (stateOf st (now (t .entry)))) r (now (t .exit)) ⌝ }
+    ensures { λ r. ⌜ Met (Few (now (s .entry)) lim) (readContract (now (s .entry)) lim depth parent weight (stateOf st (now (t .entry)))) r (now (t .exit)) ⌝ }
 {
     let g = letters(s, st);
     let Read::Value(w, e) = g else {
@@ -158,7 +158,7 @@ pub fn contract(
 fn branch(s: &[u8], st: St, depth: usize, node: usize, lim: Limits, t: &mut [usize]) -> Read
     requires { ⌜ tableLong ≤ length (now t) ⌝ }
     requires { ⌜ Few (now s) lim st ⌝ }
-    ensures { λ r. ⌜ Met (Few (now (s .entry)) lim) (branchAt (now (s .entry)) lim (contractAt (now (s .entry)) lim depth) node (stateOf st (now (t .entry)))) r (now (t .exit)) ⌝ }
+    ensures { λ r. ⌜ Met (Few (now (s .entry)) lim) (readBranch (now (s .entry)) lim (readContract (now (s .entry)) lim depth) node (stateOf st (now (t .entry)))) r (now (t .exit)) ⌝ }
 {
     let g = num(s, st, Sheet::NUMBER);
     let Read::Value(signers, e) = g else {
@@ -197,7 +197,7 @@ fn split(s: &[u8], st: St, h: Head, depth: usize, lim: Limits, t: &mut [usize]) 
     requires { ⌜ tableLong ≤ length (now t) ⌝ }
     requires { ⌜ Few (now s) lim st ⌝ }
     requires { ⌜ st .branches < 1024 ⌝ }
-    ensures { λ r. ⌜ Met (Few (now (s .entry)) lim) (splitAt (now (s .entry)) (contractAt (now (s .entry)) lim depth) h (stateOf st (now (t .entry)))) r (now (t .exit)) ⌝ }
+    ensures { λ r. ⌜ Met (Few (now (s .entry)) lim) (splitAt (now (s .entry)) (readContract (now (s .entry)) lim depth) h (stateOf st (now (t .entry)))) r (now (t .exit)) ⌝ }
 {
     let g = num(s, st, Sheet::PARTS);
     let Read::Value(n, e) = g else {
@@ -231,7 +231,7 @@ fn weighed(
     requires { ⌜ tableLong ≤ length (now t) ⌝ }
     requires { ⌜ Few (now s) lim st ⌝ }
     requires { ⌜ n ≤ 8 ⌝ }
-    ensures { λ r. ⌜ Met (Few (now (s .entry)) lim) (weighedAt (now (s .entry)) (contractAt (now (s .entry)) lim depth) parent 0 n (stateOf st (now (t .entry)))) r (now (t .exit)) ⌝ }
+    ensures { λ r. ⌜ Met (Few (now (s .entry)) lim) (weighedAt (now (s .entry)) (readContract (now (s .entry)) lim depth) parent 0 n (stateOf st (now (t .entry)))) r (now (t .exit)) ⌝ }
 {
     let mut cur = st;
     let mut left = n;
@@ -260,7 +260,7 @@ fn reveal(s: &[u8], st: St, h: Head, depth: usize, lim: Limits, t: &mut [usize])
     requires { ⌜ tableLong ≤ length (now t) ⌝ }
     requires { ⌜ Few (now s) lim st ⌝ }
     requires { ⌜ st .branches < 1024 ⌝ }
-    ensures { λ r. ⌜ Met (Few (now (s .entry)) lim) (revealAt (now (s .entry)) (lim .secrets) (contractAt (now (s .entry)) lim depth) h (stateOf st (now (t .entry)))) r (now (t .exit)) ⌝ }
+    ensures { λ r. ⌜ Met (Few (now (s .entry)) lim) (revealAt (now (s .entry)) (lim .secrets) (readContract (now (s .entry)) lim depth) h (stateOf st (now (t .entry)))) r (now (t .exit)) ⌝ }
 {
     let g = num(s, st, Sheet::SECRETS);
     let Read::Value(n, e) = g else {

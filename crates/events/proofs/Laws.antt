@@ -6,7 +6,7 @@ use native.Mathlib.Omega.{arith}
 use lib.ListN.{length, getD}
 use borrow.Author.Tests.{lt-ltb, le-ltb, eq-eqb, ne-eqb}
 use Rattle.events.specs.Events.{mostValues, valuesFrom}
-use Rattle.fields.specs.Field.{comma, after}
+use Rattle.fields.specs.Field.{comma, whenRead}
 use Rattle.fields.specs.declared.Got.{Got}
 use Rattle.fields.specs.declared.Got.the-variants.{Value, Bad}
 use Rattle.requests.specs.Part.{pastValueAt}
@@ -29,9 +29,9 @@ module _ (s : List ℕ) (n at : ℕ) where
 
   module _ (g : Got) (room : n < mostValues) (more : at < length s) (there : getD s at 0 ≡ comma) (read : g ≡ pastValueAt s at) where
     pub values-on : (v e : ℕ) → g ≡ Value v e → valuesFrom s (mostValues - (n + 1)) (n + 1) e ≡ valuesFrom s (mostValues - n) n at
-    unfolding valuesFrom after
+    unfolding valuesFrom whenRead
     values-on v e h = let j : mostValues - n ≡ suc (mostValues - (n + 1)) = omega arith in rw (j, lt-ltb _ _ more, eq-eqb _ _ there, ← read, h)
 
     pub values-bad : (m p : ℕ) → g ≡ Bad m p → g ≡ valuesFrom s (mostValues - n) n at
-    unfolding valuesFrom after
+    unfolding valuesFrom whenRead
     values-bad m p h = let j : mostValues - n ≡ suc (mostValues - (n + 1)) = omega arith in rw (j, lt-ltb _ _ more, eq-eqb _ _ there, ← read, h)

@@ -13,8 +13,8 @@ use Rattle.events.specs.declared.Event.{Event}
 use Rattle.events.specs.declared.Pair.{Pair}
 use Rattle.fields.proofs.Laws.{number-max, number-end}
 use Rattle.fields.proofs.Words.{Bytes, first-long}
-use Rattle.fields.proofs.Ranges.{after-cases, cond-cases, never, below-end, between-end, first-end, line-end-next}
-use Rattle.fields.specs.Field.{comma, spelled, after, numberAt, belowAt, betweenAt, firstAt, lineEndAt}
+use Rattle.fields.proofs.Ranges.{when-read-cases, cond-cases, never, below-end, between-end, first-end, line-end-next}
+use Rattle.fields.specs.Field.{comma, spelled, whenRead, numberAt, belowAt, betweenAt, firstAt, lineEndAt}
 use Rattle.fields.specs.declared.Got.{Got}
 use Rattle.fields.specs.declared.Got.the-variants.{Value, Bad}
 use Rattle.requests.proofs.Laws.{past-end}
@@ -49,8 +49,8 @@ module _ (s : List ℕ) (at : ℕ) where
   pair-end : (a b q : ℕ) → pairAt s at ≡ pair.Two a b q → Small s at a b q
   unfolding pairAt
   pair-end a b q =
-      after-cases (λ r. r ≡ pair.Two a b q → Small s at a b q) pair.Bad (numberAt s at mostField) _ (λ m p h. none m p a b q h) λ x e g.
-      after-cases (λ r. r ≡ pair.Two a b q → Small s at a b q) pair.Bad (numberAt s e mostField) _ (λ m p h. none m p a b q h) λ y f k h.
+      when-read-cases (λ r. r ≡ pair.Two a b q → Small s at a b q) pair.Bad (numberAt s at mostField) _ (λ m p h. none m p a b q h) λ x e g.
+      when-read-cases (λ r. r ≡ pair.Two a b q → Small s at a b q) pair.Bad (numberAt s e mostField) _ (λ m p h. none m p a b q h) λ y f k h.
       let i : x ≡ a = cc in let j : y ≡ b = cc in let l : f ≡ q = cc in
       let first = number-end s at mostField x e g in
       let second = number-end s e mostField y f k in
@@ -60,7 +60,7 @@ module _ (s : List ℕ) (at : ℕ) where
   unfolding lastPairAt
   last-pair-end a b q =
       pair-cases (λ r. r ≡ pair.Two a b q → Small s at a b q) pair.Bad (pairAt s at) _ (λ m p h. none m p a b q h) λ x y e g.
-      after-cases (λ r. r ≡ pair.Two a b q → Small s at a b q) pair.Bad (lineEndAt s e) _ (λ m p h. none m p a b q h) λ v f k h.
+      when-read-cases (λ r. r ≡ pair.Two a b q → Small s at a b q) pair.Bad (lineEndAt s e) _ (λ m p h. none m p a b q h) λ v f k h.
       let i : x ≡ a = cc in let j : y ≡ b = cc in let l : f ≡ q = cc in
       let both = pair-end x y e g in
       let end = line-end-next s e v f k in
@@ -81,11 +81,11 @@ no-more s left n at m q h =
     (omega arith, omega arith, rw (k, j), omega arith)
 
 values-sound : (s : List ℕ) (left n at m q : ℕ) → valuesFrom s left n at ≡ Value m q → Counted s left n at m q
-unfolding valuesFrom pastValuesAt after
+unfolding valuesFrom pastValuesAt whenRead
 values-sound s zero n at m q = no-more s zero n at m q
 values-sound s (suc left) n at m q =
     cond-cases (λ r. r ≡ Value m q → Counted s (suc left) n at m q) (ltb at (length s) && eqb (getD s at 0) comma) _ (Value n at)
-    (λ t. after-cases (λ r. r ≡ Value m q → Counted s (suc left) n at m q) Bad (pastValueAt s at) _ (λ o p h. never o p m q h) λ v e g h.
+    (λ t. when-read-cases (λ r. r ≡ Value m q → Counted s (suc left) n at m q) Bad (pastValueAt s at) _ (λ o p h. never o p m q h) λ v e g h.
     let one = past-end s at v e g in
     let rest = values-sound s left (n + 1) e m q h in
     let k : m - n ≡ suc (m - (n + 1)) = omega arith in
@@ -103,8 +103,8 @@ module _ (s : List ℕ) (people at p : ℕ) (from : at ≤ p + 2) where
   wait-sound : Sound s people at (waitAt s p)
   unfolding waitAt Sound
   wait-sound =
-      after-cases (Sound s people at) event.Bad (betweenAt s p 1 mostWait) _ bad λ d e g.
-      after-cases (Sound s people at) event.Bad (lineEndAt s e) _ bad λ v f h.
+      when-read-cases (Sound s people at) event.Bad (betweenAt s p 1 mostWait) _ bad λ d e g.
+      when-read-cases (Sound s people at) event.Bad (lineEndAt s e) _ bad λ v f h.
       let field = between-end s p 1 mostWait d e g in
       let end = line-end-next s e v f h in
       (omega arith, omega arith, omega arith, omega arith)
@@ -112,7 +112,7 @@ module _ (s : List ℕ) (people at p : ℕ) (from : at ≤ p + 2) where
   sign-sound : Sound s people at (signAt s people p)
   unfolding signAt Sound
   sign-sound =
-      after-cases (Sound s people at) event.Bad (belowAt s p people) _ bad λ o e g.
+      when-read-cases (Sound s people at) event.Bad (belowAt s p people) _ bad λ o e g.
       pair-cases (Sound s people at) event.Bad (lastPairAt s e) _ bad λ c b f h.
       let field = below-end s p people o e g in
       let both = last-pair-end s e c b f h in
@@ -136,8 +136,8 @@ module _ (s : List ℕ) (people at p : ℕ) (from : at ≤ p + 2) where
   unfolding renewAt valuesAt Sound
   renew-sound =
       pair-cases (Sound s people at) event.Bad (pairAt s p) _ bad λ c b e g.
-      after-cases (Sound s people at) event.Bad (valuesFrom s mostValues 0 e) _ bad λ n f h.
-      after-cases (Sound s people at) event.Bad (lineEndAt s f) _ bad λ v z i.
+      when-read-cases (Sound s people at) event.Bad (valuesFrom s mostValues 0 e) _ bad λ n f h.
+      when-read-cases (Sound s people at) event.Bad (lineEndAt s f) _ bad λ v z i.
       let both = pair-end s p c b e g in
       let values = values-sound s mostValues 0 e n f h in
       let end = line-end-next s f v z i in
@@ -147,7 +147,7 @@ module _ (s : List ℕ) (people at p : ℕ) (from : at ≤ p + 2) where
 event-from : (s : List ℕ) (people at from : ℕ) → ((w e : ℕ) → firstAt s at ≡ Value w e → 256 ^ 3 ≤ w → from ≤ e + 2) → Sound s people from (eventAt s people at)
 unfolding eventAt Sound
 event-from s people at from long =
-    after-cases (Sound s people from) event.Bad (firstAt s at) _ (λ n q. tt) λ w e g.
+    when-read-cases (Sound s people from) event.Bad (firstAt s at) _ (λ n q. tt) λ w e g.
     cond-cases (Sound s people from) (eqb w (spelled "wait")) (waitAt s e) _ (λ t. wait-sound s people from e (long w e g (omega (arith, eqb-true w (spelled "wait") t)))) λ t.
     cond-cases (Sound s people from) (eqb w (spelled "sign")) (signAt s people e) _ (λ t. sign-sound s people from e (long w e g (omega (arith, eqb-true w (spelled "sign") t)))) λ t.
     cond-cases (Sound s people from) (eqb w (spelled "tell")) (tellAt s e) _ (λ t. tell-sound s people from e (long w e g (omega (arith, eqb-true w (spelled "tell") t)))) λ t.
@@ -186,13 +186,13 @@ events-over s people zero at h = refl
 events-over s people (suc n) at h = rw (le-ltb _ _ h)
 
 events-enough : (s : List ℕ) (people m n at : ℕ) → length s ≤ at + m → length s ≤ at + n → eventsFrom s people m at ≡ eventsFrom s people n at
-unfolding eventsFrom after
+unfolding eventsFrom whenRead
 events-enough s people zero n at h k = sym (events-over s people n at (omega arith))
 events-enough s people (suc m) zero at h k = events-over s people (suc m) at (omega arith)
 events-enough s people (suc m) (suc n) at h k = go (nextOf (eventAt s people at)) refl (λ e l. events-enough s people m n e (omega arith) (omega arith))
   where
     go : (g : Got) → nextOf (eventAt s people at) ≡ g → ((e : ℕ) → at < e → eventsFrom s people m e ≡ eventsFrom s people n e)
-        → cond (ltb at (length s)) (after lines.Bad g λ v e. eventsFrom s people m e) lines.Good ≡ cond (ltb at (length s)) (after lines.Bad g λ v e. eventsFrom s people n e) lines.Good
+        → cond (ltb at (length s)) (whenRead lines.Bad g λ v e. eventsFrom s people m e) lines.Good ≡ cond (ltb at (length s)) (whenRead lines.Bad g λ v e. eventsFrom s people n e) lines.Good
     go (Value v e) i f = rw (f e (event-ahead s people at v e i .0))
     go (Bad o p) i f = refl
 
@@ -203,14 +203,14 @@ module _ (s : List ℕ) (people at : ℕ) where
 
   module _ (g : Got) (more : at < length s) (read : g ≡ nextOf (eventAt s people at)) where
     pub events-on : (v e : ℕ) → g ≡ Value v e → eventsAt s people e ≡ eventsAt s people at
-    unfolding eventsAt eventsFrom after
+    unfolding eventsAt eventsFrom whenRead
     events-on v e h =
         let l = event-ahead s people at v e (sym read ∙ h) in
         let j : length s - at ≡ suc (length s - at - 1) = omega arith in
         rw (j, lt-ltb _ _ more, ← read, h) (events-enough s people (length s - e) (length s - at - 1) e (omega arith) (omega arith))
 
     pub events-bad : (m p : ℕ) → g ≡ Bad m p → lines.Bad m p ≡ eventsAt s people at
-    unfolding eventsAt eventsFrom after
+    unfolding eventsAt eventsFrom whenRead
     events-bad m p h =
         let j : length s - at ≡ suc (length s - at - 1) = omega arith in
         rw (j, lt-ltb _ _ more, ← read, h)

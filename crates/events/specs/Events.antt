@@ -6,7 +6,7 @@ use lib.ListN.{length, getD}
 use lib.Dec.{ltb, eqb}
 use Rattle.fields.specs.declared.Got.{Got}
 use Rattle.fields.specs.declared.Got.the-variants.{Value, Bad}
-use Rattle.fields.specs.Field.{comma, spelled, after, numberAt, belowAt, betweenAt, firstAt, lineEndAt}
+use Rattle.fields.specs.Field.{comma, spelled, whenRead, numberAt, belowAt, betweenAt, firstAt, lineEndAt}
 use Rattle.requests.specs.Part.{pastValueAt}
 use Rattle.events.specs.declared.Event.{Event}
 use Rattle.events.specs.declared.Event.the-variants as event
@@ -29,8 +29,8 @@ mostValues = 8
 -- "Fields c, b, i, j are at most 65,535."
 unfoldable pub pairAt : List ℕ → ℕ → Pair
 pairAt s at =
-    after pair.Bad (numberAt s at mostField) λ a e.
-    after pair.Bad (numberAt s e mostField) λ b f. pair.Two a b f
+    whenRead pair.Bad (numberAt s at mostField) λ a e.
+    whenRead pair.Bad (numberAt s e mostField) λ b f. pair.Two a b f
 
 -- goes on with both and the position after them; a refusal is told by `bad`
 unfoldable pub afterPair : {A : Type 0} → (ℕ → ℕ → A) → Pair → (ℕ → ℕ → ℕ → A) → A
@@ -41,20 +41,20 @@ afterPair bad (pair.Bad n p) go = bad n p
 unfoldable pub lastPairAt : List ℕ → ℕ → Pair
 lastPairAt s at =
     afterPair pair.Bad (pairAt s at) λ a b e.
-    after pair.Bad (lineEndAt s e) λ v f. pair.Two a b f
+    whenRead pair.Bad (lineEndAt s e) λ v f. pair.Two a b f
 
 -- ---- the lines, each after its word
 
 -- "`wait`,d (1 to 4,294,967,295)"
 unfoldable pub waitAt : List ℕ → ℕ → Event
 waitAt s at =
-    after event.Bad (betweenAt s at 1 mostWait) λ d e.
-    after event.Bad (lineEndAt s e) λ v f. event.Wait d f
+    whenRead event.Bad (betweenAt s at 1 mostWait) λ d e.
+    whenRead event.Bad (lineEndAt s e) λ v f. event.Wait d f
 
 -- "`sign`,p,c,b"; "(while reading; in event lines only the p of `sign`)" gets 6
 unfoldable pub signAt : List ℕ → ℕ → ℕ → Event
 signAt s people at =
-    after event.Bad (belowAt s at people) λ p e.
+    whenRead event.Bad (belowAt s at people) λ p e.
     afterPair event.Bad (lastPairAt s e) λ c b f. event.Sign p c b f
 
 -- "`tell`,i,j"
@@ -69,7 +69,7 @@ fireAt s at = afterPair event.Bad (lastPairAt s at) event.Fire
 unfoldable pub valuesFrom : List ℕ → ℕ → ℕ → ℕ → Got
 valuesFrom s zero n at = Value n at
 valuesFrom s (suc left) n at =
-    cond (ltb at (length s) && eqb (getD s at 0) comma) (after Bad (pastValueAt s at) λ v e. valuesFrom s left (n + 1) e) (Value n at)
+    cond (ltb at (length s) && eqb (getD s at 0) comma) (whenRead Bad (pastValueAt s at) λ v e. valuesFrom s left (n + 1) e) (Value n at)
 
 -- "up to 8 values"
 unfoldable pub valuesAt : List ℕ → ℕ → Got
@@ -79,13 +79,13 @@ valuesAt s at = valuesFrom s mostValues 0 at
 unfoldable pub renewAt : List ℕ → ℕ → Event
 renewAt s at =
     afterPair event.Bad (pairAt s at) λ c b e.
-    after event.Bad (valuesAt s e) λ n f.
-    after event.Bad (lineEndAt s f) λ v z. event.Renew c b e n z
+    whenRead event.Bad (valuesAt s e) λ n f.
+    whenRead event.Bad (lineEndAt s f) λ v z. event.Renew c b e n z
 
 -- an event line, whole
 unfoldable pub eventAt : List ℕ → ℕ → ℕ → Event
 eventAt s people at =
-    after event.Bad (firstAt s at) λ w e.
+    whenRead event.Bad (firstAt s at) λ w e.
     cond (eqb w (spelled "wait")) (waitAt s e)
     (cond (eqb w (spelled "sign")) (signAt s people e)
     (cond (eqb w (spelled "tell")) (tellAt s e)
@@ -108,7 +108,7 @@ nextOf (event.Bad n p) = Bad n p
 unfoldable pub eventsFrom : List ℕ → ℕ → ℕ → ℕ → Lines
 eventsFrom s people zero at = lines.Good
 eventsFrom s people (suc n) at =
-    cond (ltb at (length s)) (after lines.Bad (nextOf (eventAt s people at)) λ v e. eventsFrom s people n e) lines.Good
+    cond (ltb at (length s)) (whenRead lines.Bad (nextOf (eventAt s people at)) λ v e. eventsFrom s people n e) lines.Good
 
 -- "The reader goes field by field over the whole request before anything is judged": every event line from `at` to the end
 unfoldable pub eventsAt : List ℕ → ℕ → ℕ → Lines

@@ -10,7 +10,7 @@ use lib.ListN.{length, getD, take, drop, drop-of-length-le, length-drop, length-
 use lib.Seq.{drop-cons}
 use lib.Dec.{ltb, leb, eqb, lit<}
 use borrow.Author.Tests.{eq-eqb, ne-eqb, le-leb, lt-leb, lt-ltb, leb-true, ltb-true, eqb-true}
-use Rattle.fields.specs.Field.{comma, lf, zeroDigit, nineDigit, isSep, fieldLen, allDigits, value, numberOf, numberAt, afterComma, upTo, textAt, endAt, packed, packedOf, wordFrom, wordAt}
+use Rattle.fields.specs.Field.{comma, lf, zeroDigit, nineDigit, isSep, fieldLen, allDigits, digitsOn, numberOf, numberAt, afterComma, upTo, textAt, endAt, packed, packedOf, wordFrom, wordAt}
 use Rattle.fields.specs.declared.Num.{Num}
 use Rattle.fields.specs.declared.Num.the-variants.{Is, Not}
 use Rattle.fields.specs.declared.Got.{Got}
@@ -49,13 +49,13 @@ module _ (s : List ℕ) (i : ℕ) where
   unfolding allDigits
   digits-more h f e = rw (add-one, drop-cons s i 0, le-leb _ _ f, le-leb _ _ e)
 
-  pub value-end : (v : ℕ) → length s ≤ i → value v (drop i s) ≡ v
-  unfolding value
-  value-end v h = rw drop-of-length-le
+  pub digits-on-end : (v : ℕ) → length s ≤ i → digitsOn v (drop i s) ≡ v
+  unfolding digitsOn
+  digits-on-end v h = rw drop-of-length-le
 
-  pub value-more : (v : ℕ) → i < length s → value v (drop i s) ≡ value (v * 10 + (getD s i 0 - zeroDigit)) (drop (i + 1) s)
-  unfolding value
-  value-more v h = rw (add-one, drop-cons s i 0)
+  pub digits-on-more : (v : ℕ) → i < length s → digitsOn v (drop i s) ≡ digitsOn (v * 10 + (getD s i 0 - zeroDigit)) (drop (i + 1) s)
+  unfolding digitsOn
+  digits-on-more v h = rw (add-one, drop-cons s i 0)
 
 pub packed-end : (s : List ℕ) (i v : ℕ) → length s ≤ i → packed v (drop i s) ≡ v
 unfolding packed

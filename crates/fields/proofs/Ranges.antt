@@ -8,16 +8,16 @@ use lib.Dec.{ltb, eqb}
 use lib.ListN.{length, getD, drop}
 use borrow.Author.Tests.{ltb-true, ltb-false}
 use Rattle.fields.proofs.Laws.{end-within, number-max, number-end}
-use Rattle.fields.specs.Field.{lf, fieldLen, after, anyNumber, numberAt, belowAt, betweenAt, wordFrom, endAt, firstAt, lineEndAt}
+use Rattle.fields.specs.Field.{lf, fieldLen, whenRead, anyNumber, numberAt, belowAt, betweenAt, wordFrom, endAt, firstAt, lineEndAt}
 use Rattle.fields.specs.declared.Got.{Got}
 use Rattle.fields.specs.declared.Got.the-variants.{Value, Bad}
 
 -- what holds of a refusal, and of what follows a field, holds of both
-pub after-cases : {A : Type 0} (Q : A → Type 0) (bad : ℕ → ℕ → A) (g : Got) (go : ℕ → ℕ → A)
-    → ((n p : ℕ) → Q (bad n p)) → ((v e : ℕ) → g ≡ Value v e → Q (go v e)) → Q (after bad g go)
-unfolding after
-after-cases Q bad (Value v e) go h k = k v e refl
-after-cases Q bad (Bad n p) go h k = h n p
+pub when-read-cases : {A : Type 0} (Q : A → Type 0) (bad : ℕ → ℕ → A) (g : Got) (go : ℕ → ℕ → A)
+    → ((n p : ℕ) → Q (bad n p)) → ((v e : ℕ) → g ≡ Value v e → Q (go v e)) → Q (whenRead bad g go)
+unfolding whenRead
+when-read-cases Q bad (Value v e) go h k = k v e refl
+when-read-cases Q bad (Bad n p) go h k = h n p
 
 pub cond-cases : {A : Type 0} (Q : A → Type 0) (b : Bool) (x y : A) → (b ≡ true → Q x) → (b ≡ false → Q y) → Q (cond b x y)
 cond-cases Q true x y h k = h refl
@@ -31,7 +31,7 @@ module _ (s : List ℕ) (at : ℕ) where
   pub below-end : (n v q : ℕ) → belowAt s at n ≡ Value v q → (v < n) × (at + 2 ≤ q) × (q ≤ length s)
   unfolding belowAt
   below-end n v q =
-      after-cases (λ r. r ≡ Value v q → (v < n) × (at + 2 ≤ q) × (q ≤ length s)) Bad (numberAt s at anyNumber) _ (λ m p h. never m p v q h) λ w e g.
+      when-read-cases (λ r. r ≡ Value v q → (v < n) × (at + 2 ≤ q) × (q ≤ length s)) Bad (numberAt s at anyNumber) _ (λ m p h. never m p v q h) λ w e g.
       cond-cases (λ r. r ≡ Value v q → (v < n) × (at + 2 ≤ q) × (q ≤ length s)) (ltb w n) (Value w e) (Bad 6 at)
       (λ b h. let i : w ≡ v = cc in let j : e ≡ q = cc in let k = number-end s at anyNumber w e g in (omega (arith, ltb-true w n b), omega arith, omega arith))
       (λ b h. never 6 at v q h)
@@ -40,7 +40,7 @@ module _ (s : List ℕ) (at : ℕ) where
   pub between-end : (low high v q : ℕ) → betweenAt s at low high ≡ Value v q → (low ≤ v) × (v ≤ high) × (at + 2 ≤ q) × (q ≤ length s)
   unfolding betweenAt
   between-end low high v q =
-      after-cases (λ r. r ≡ Value v q → (low ≤ v) × (v ≤ high) × (at + 2 ≤ q) × (q ≤ length s)) Bad (numberAt s at high) _ (λ m p h. never m p v q h) λ w e g.
+      when-read-cases (λ r. r ≡ Value v q → (low ≤ v) × (v ≤ high) × (at + 2 ≤ q) × (q ≤ length s)) Bad (numberAt s at high) _ (λ m p h. never m p v q h) λ w e g.
       cond-cases (λ r. r ≡ Value v q → (low ≤ v) × (v ≤ high) × (at + 2 ≤ q) × (q ≤ length s)) (ltb w low) (Bad 4 at) (Value w e)
       (λ b h. never 4 at v q h)
       (λ b h. let i : w ≡ v = cc in let j : e ≡ q = cc in let k = number-end s at high w e g in

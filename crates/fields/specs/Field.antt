@@ -56,12 +56,12 @@ allDigits [] = true
 allDigits (b ∷ r) = isDigit b && allDigits r
 
 -- the digits read on from v
-unfoldable pub value : ℕ → List ℕ → ℕ
-value v [] = v
-value v (b ∷ r) = value (v * 10 + (b - zeroDigit)) r
+unfoldable pub digitsOn : ℕ → List ℕ → ℕ
+digitsOn v [] = v
+digitsOn v (b ∷ r) = digitsOn (v * 10 + (b - zeroDigit)) r
 
 unfoldable pub digitsOf : List ℕ → Num
-digitsOf t = cond (allDigits t) (Is (value 0 t)) Not
+digitsOf t = cond (allDigits t) (Is (digitsOn 0 t)) Not
 
 -- "A number is decimal, 1 to 19 digits, no sign, no leading zero (0 itself is `0`)."
 unfoldable pub numberOf : List ℕ → Num
@@ -124,9 +124,9 @@ lineEndAt s at = cond (ltb at (length s)) (cond (eqb (getD s at 0) lf) (Value 0 
 -- ---- one field after the other
 
 -- goes on with what was read and the position after it; a refusal is told by `bad`
-unfoldable pub after : {A : Type 0} → (ℕ → ℕ → A) → Got → (ℕ → ℕ → A) → A
-after bad (Value v e) go = go v e
-after bad (Bad n p) go = bad n p
+unfoldable pub whenRead : {A : Type 0} → (ℕ → ℕ → A) → Got → (ℕ → ℕ → A) → A
+whenRead bad (Value v e) go = go v e
+whenRead bad (Bad n p) go = bad n p
 
 -- the largest number of 19 digits
 abbrev pub anyNumber : ℕ
@@ -134,8 +134,8 @@ anyNumber = 9_999_999_999_999_999_999
 
 -- "Numbers of participants, definitions, secrets, nodes and branches count from 0": the number of one of n; 6 where there is none
 unfoldable pub belowAt : List ℕ → ℕ → ℕ → Got
-belowAt s at n = after Bad (numberAt s at anyNumber) λ v e. cond (ltb v n) (Value v e) (Bad 6 at)
+belowAt s at n = whenRead Bad (numberAt s at anyNumber) λ v e. cond (ltb v n) (Value v e) (Bad 6 at)
 
 -- "count, amount, rank or event field beyond its range": 4 below the range too
 unfoldable pub betweenAt : List ℕ → ℕ → ℕ → ℕ → Got
-betweenAt s at low high = after Bad (numberAt s at high) λ v e. cond (ltb v low) (Bad 4 at) (Value v e)
+betweenAt s at low high = whenRead Bad (numberAt s at high) λ v e. cond (ltb v low) (Bad 4 at) (Value v e)

@@ -180,6 +180,7 @@ fn word_from(s: &[u8], from: usize) -> Got
     requires { ⌜ from ≤ length (now s) ⌝ }
     ensures { λ r. ⌜ r ≡ wordFrom (now (s .entry)) from ⌝ }
 {
+    // Most words are one letter with a comma behind it.
     if 1 < s.len() - from {
         if s[from + 1] == COMMA {
             let b = s[from];

@@ -8,7 +8,7 @@ use lib.Dec.{eqb}
 use Rattle.fields.specs.declared.Got.{Got}
 use Rattle.fields.specs.declared.Got.the-variants as got
 use Rattle.fields.specs.Field.{spelled, betweenAt, firstAt, lineEndAt}
-use Rattle.fields.proofs.Ranges.{after-cases, cond-cases, between-end, line-end-next}
+use Rattle.fields.proofs.Ranges.{when-read-cases, cond-cases, between-end, line-end-next}
 use Rattle.tables.specs.declared.St.{St}
 use Rattle.tables.specs.Entries.{people}
 use Rattle.tables.specs.State.{stateOf, entries, Headed}
@@ -38,9 +38,9 @@ never-counts m p k n e h = let z : _≡_ {A = ℕ} 0 1 = cc in absurd (omega ari
 counts-counted : (s : List ℕ) (at k n e : ℕ) → countsAt s at ≡ one.Counts k n e → Counted s k n e
 unfolding countsAt
 counts-counted s at k n e =
-    after-cases (λ r. r ≡ one.Counts k n e → Counted s k n e) one.Bad (betweenAt s at 1 16) _ (λ m p. never-counts m p k n e) λ k₁ q g.
-    after-cases (λ r. r ≡ one.Counts k n e → Counted s k n e) one.Bad (betweenAt s q 1 32) _ (λ m p. never-counts m p k n e) λ n₁ r h.
-    after-cases (λ r. r ≡ one.Counts k n e → Counted s k n e) one.Bad (lineEndAt s r) _ (λ m p. never-counts m p k n e) λ v e₁ i j.
+    when-read-cases (λ r. r ≡ one.Counts k n e → Counted s k n e) one.Bad (betweenAt s at 1 16) _ (λ m p. never-counts m p k n e) λ k₁ q g.
+    when-read-cases (λ r. r ≡ one.Counts k n e → Counted s k n e) one.Bad (betweenAt s q 1 32) _ (λ m p. never-counts m p k n e) λ n₁ r h.
+    when-read-cases (λ r. r ≡ one.Counts k n e → Counted s k n e) one.Bad (lineEndAt s r) _ (λ m p. never-counts m p k n e) λ v e₁ i j.
     let a = between-end s at 1 16 k₁ q g in
     let b = between-end s q 1 32 n₁ r h in
     let c = line-end-next s r v e₁ i in
@@ -52,7 +52,7 @@ counts-counted s at k n e =
 pub counted : (s : List ℕ) (k n e : ℕ) → lineOneAt s ≡ one.Counts k n e → Counted s k n e
 unfolding lineOneAt
 counted s k n e =
-    after-cases (λ r. r ≡ one.Counts k n e → Counted s k n e) one.Bad (firstAt s 0) _ (λ m p. never-counts m p k n e) λ w p g.
+    when-read-cases (λ r. r ≡ one.Counts k n e → Counted s k n e) one.Bad (firstAt s 0) _ (λ m p. never-counts m p k n e) λ w p g.
     cond-cases (λ r. r ≡ one.Counts k n e → Counted s k n e) (eqb w (spelled "bitml")) (countsAt s p) (one.Bad 3 0)
     (λ b. counts-counted s p k n e)
     (λ b. never-counts 3 0 k n e)

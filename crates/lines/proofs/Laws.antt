@@ -18,7 +18,7 @@ use Rattle.steps.specs.Steps.{Outcome, next, bad, moved, Met, goOn, either, and
 use Rattle.steps.proofs.Laws.{Took, took-line-end, passed, refused, done, Leads}
 use Rattle.conditions.specs.Condition.{HasRoom}
 use Rattle.contracts.specs.declared.Limits.{Limits}
-use Rattle.contracts.specs.Contract.{contractAt}
+use Rattle.contracts.specs.Contract.{readContract}
 use Rattle.contracts.specs.Counts.{Few, Added}
 use Rattle.lines.specs.Counts.{Between, Defined}
 use Rattle.lines.specs.Definition.{within, depositsAt, rootAt, ownedAt, defineAt, blank}
@@ -54,7 +54,7 @@ module _ (P : St → Type 0) (s : List ℕ) where
 
   -- the contract of a definition whose entry is stored
   pub root-from : (z : Limits) (first n : ℕ) (st : St) (t : List ℕ) (x : State) → x ≡ withDef (defEntry (st .nodes) first n) (stateOf st t)
-      → Leads P (andThen (contractAt s (within z n (st .defs)) 32 1024 0 x) λ a₁. goOn a₁ (lineEndAt s (a₁ .at)) λ v a₂. next a₂) (rootAt s z first n (stateOf st t))
+      → Leads P (andThen (readContract s (within z n (st .defs)) 32 1024 0 x) λ a₁. goOn a₁ (lineEndAt s (a₁ .at)) λ v a₂. next a₂) (rootAt s z first n (stateOf st t))
   unfolding rootAt nodesOf defsOf
   root-from z first n st t x h r u m = rw (firstOf-length (defIn t) (st .defs), firstOf-length (nodeIn t) (st .nodes), ← h) m
 

@@ -7,7 +7,7 @@ use Rattle.fields.specs.Field.{spelled, anyNumber, numberAt, firstAt, lineEndAt
 use Rattle.tables.specs.State.{State, withListed, withDef, defEntry}
 use Rattle.steps.specs.Steps.{Outcome, next, bad, goOn, either, andThen, times}
 use Rattle.contracts.specs.declared.Limits.{Limits}
-use Rattle.contracts.specs.Contract.{contractAt}
+use Rattle.contracts.specs.Contract.{readContract}
 
 -- the limits within definition d, which has n secrets
 abbrev pub within : Limits → ℕ → ℕ → Limits
@@ -30,7 +30,7 @@ module _ (s : List ℕ) where
   -- "one contract": the next node is the root, no branch's part (1,024), at depth 1 of 32; then the line's end
   unfoldable pub rootAt : Limits → ℕ → ℕ → State → Outcome
   rootAt z first n a =
-      andThen (contractAt s (within z n (length (a .defs))) 32 1024 0 (withDef (defEntry (length (a .nodes)) first n) a)) λ a₁.
+      andThen (readContract s (within z n (length (a .defs))) 32 1024 0 (withDef (defEntry (length (a .nodes)) first n) a)) λ a₁.
       goOn a₁ (lineEndAt s (a₁ .at)) λ v a₂. next a₂
 
   -- "the count of secrets (0 to 8), each secret's owner", after the deposits, which are listed from `first` on

@@ -7,7 +7,7 @@ use mathlib.Core.List.{List, [], _∷_}
 use lib.ListN.{length}
 use lib.Dec.{ltb}
 use borrow.Author.Tests.{lt-ltb, le-ltb}
-use Rattle.fields.specs.Field.{after}
+use Rattle.fields.specs.Field.{whenRead}
 use Rattle.fields.specs.declared.Got.{Got}
 use Rattle.fields.specs.declared.Got.the-variants.{Value, Bad}
 use Rattle.fields.proofs.Words.{Bytes}
@@ -25,13 +25,13 @@ up-over s people zero at h = refl
 up-over s people (suc n) at h = rw (le-ltb _ _ h)
 
 up-enough : (s : List ℕ) (people m n at : ℕ) → length s ≤ at + m → length s ≤ at + n → eventsUpTo s people m at ≡ eventsUpTo s people n at
-unfolding eventsUpTo after
+unfolding eventsUpTo whenRead
 up-enough s people zero n at h k = sym (up-over s people n at (omega arith))
 up-enough s people (suc m) zero at h k = up-over s people (suc m) at (omega arith)
 up-enough s people (suc m) (suc n) at h k = go (nextOf (eventAt s people at)) refl (λ e l. up-enough s people m n e (omega arith) (omega arith))
   where
     go : (g : Got) → nextOf (eventAt s people at) ≡ g → ((e : ℕ) → at < e → eventsUpTo s people m e ≡ eventsUpTo s people n e)
-        → cond (ltb at (length s)) (after (λ m p. []) g λ v e. eventOf s (eventAt s people at) ∷ eventsUpTo s people m e) [] ≡ cond (ltb at (length s)) (after (λ m p. []) g λ v e. eventOf s (eventAt s people at) ∷ eventsUpTo s people n e) []
+        → cond (ltb at (length s)) (whenRead (λ m p. []) g λ v e. eventOf s (eventAt s people at) ∷ eventsUpTo s people m e) [] ≡ cond (ltb at (length s)) (whenRead (λ m p. []) g λ v e. eventOf s (eventAt s people at) ∷ eventsUpTo s people n e) []
     go (Value v e) i f = rw (f e (event-ahead s people at v e i .0))
     go (Bad o p) i f = refl
 
@@ -53,7 +53,7 @@ module _ (s : List ℕ) (people at : ℕ) (more : at < length s) (good : eventsA
 
   module _ (v e : ℕ) (next : nextOf x ≡ Value v e) where
     pub events-more : eventsOf s people at ≡ eventOf s x ∷ eventsOf s people e
-    unfolding eventsOf eventsUpTo after
+    unfolding eventsOf eventsUpTo whenRead
     events-more =
         let g : nextOf (eventAt s people at) ≡ Value v e = rw (← read) next in
         let l = event-ahead s people at v e g in

@@ -10,7 +10,7 @@ use lib.ListN.{length, getD, take, drop, set, length-set, length-map}
 use lib.Seq.{take-suc-set, drop-set-lt, drop-drop}
 use lib.Dec.{eqb}
 use Rattle.fields.proofs.Laws.{number-max}
-use Rattle.fields.proofs.Ranges.{after-cases, cond-cases}
+use Rattle.fields.proofs.Ranges.{when-read-cases, cond-cases}
 use Rattle.fields.specs.Field.{spelled, numberAt, wordAt}
 use Rattle.requests.specs.Part.{mostValue, valueAt}
 use Rattle.requests.specs.declared.Commitment.{Commitment}
@@ -25,9 +25,9 @@ module _ (s : List ℕ) (at : ℕ) where
   pub value-most : (v e : ℕ) → valueAt s at ≡ commitment.Number v e → v ≤ mostValue
   unfolding valueAt
   value-most v e =
-      after-cases (λ c. c ≡ commitment.Number v e → v ≤ mostValue) commitment.Bad (wordAt s at) _ (λ m p h. let z : _≡_ {A = ℕ} 0 1 = cc in absurd (omega arith)) λ w f g.
+      when-read-cases (λ c. c ≡ commitment.Number v e → v ≤ mostValue) commitment.Bad (wordAt s at) _ (λ m p h. let z : _≡_ {A = ℕ} 0 1 = cc in absurd (omega arith)) λ w f g.
       cond-cases (λ c. c ≡ commitment.Number v e → v ≤ mostValue) (eqb w (spelled "x")) (commitment.Ill f) _ (λ b h. let z : _≡_ {A = ℕ} 0 1 = cc in absurd (omega arith)) λ b.
-      after-cases (λ c. c ≡ commitment.Number v e → v ≤ mostValue) commitment.Bad (numberAt s at mostValue) commitment.Number (λ m p h. let z : _≡_ {A = ℕ} 0 1 = cc in absurd (omega arith)) λ u q i h.
+      when-read-cases (λ c. c ≡ commitment.Number v e → v ≤ mostValue) commitment.Bad (numberAt s at mostValue) commitment.Number (λ m p h. let z : _≡_ {A = ℕ} 0 1 = cc in absurd (omega arith)) λ u q i h.
       let j : u ≡ v = cc in omega (arith, number-max s at mostValue u q i)
 
   module _ (c : Commitment) (read : c ≡ valueAt s at) where

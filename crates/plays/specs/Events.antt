@@ -5,7 +5,7 @@ use mathlib.Core.List.{List, [], _∷_}
 use lib.ListN.{length}
 use lib.Dec.{ltb}
 use Rattle.bitml.specs.Ledger.{Event, wait, sign, tell, fire, renew}
-use Rattle.fields.specs.Field.{after}
+use Rattle.fields.specs.Field.{whenRead}
 use Rattle.events.specs.Events.{eventAt, nextOf}
 use Rattle.events.specs.declared.Event as read
 use Rattle.events.specs.declared.Event.the-variants as line
@@ -24,7 +24,7 @@ eventOf s (line.Bad n p) = wait 0
 unfoldable pub eventsUpTo : List ℕ → ℕ → ℕ → ℕ → List Event
 eventsUpTo s people zero at = []
 eventsUpTo s people (suc n) at =
-    cond (ltb at (length s)) (after (λ m p. []) (nextOf (eventAt s people at)) λ v e. eventOf s (eventAt s people at) ∷ eventsUpTo s people n e) []
+    cond (ltb at (length s)) (whenRead (λ m p. []) (nextOf (eventAt s people at)) λ v e. eventOf s (eventAt s people at) ∷ eventsUpTo s people n e) []
 
 -- "event lines": those from a position to the request's end. A line takes a byte or more, so as many as there are bytes left are all
 unfoldable pub eventsOf : List ℕ → ℕ → ℕ → List Event

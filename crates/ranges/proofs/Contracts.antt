@@ -13,7 +13,7 @@ use Rattle.tables.specs.State.{State, entries, nodeEntry, branchEntry, withBran
 use Rattle.tables.specs.SheetOf.{defEntryAt}
 use Rattle.steps.specs.Steps.{toPlace}
 use Rattle.contracts.specs.declared.Limits.{Limits}
-use Rattle.contracts.specs.Contract.{ContractReader, action, holdAt, leafAt, weighedAt, splitAt, listAt, openAt, revealAt, contractWith, actionAt, branchAt, insideAt, contractAt}
+use Rattle.contracts.specs.Contract.{ContractReader, action, holdAt, leafAt, weighedAt, splitAt, listAt, openAt, revealAt, contractWith, actionAt, readBranch, insideAt, readContract}
 use Rattle.lines.specs.Definition.{within}
 use Rattle.lines.specs.Sheet.{sizes}
 use Rattle.ranges.specs.Ranged.{Below, RevealRange, BranchRange, secretsAt}
@@ -185,8 +185,8 @@ module _ (s : List ℕ) (K F d S : ℕ) (ds : List DefEntry) (few : S ≤ 8) (la
           ends-test _ _ _ (λ z. leaf-good 3 F a (λ p i. renews i) g) (λ z. refused)
 
     branch-good : (node : ℕ) (a : State) → node < length ns → getD ns node noNode .definition ≡ d
-        → Good s K F ds ns 0 0 a → Ends (Good s K F ds ns 0 0) (branchAt s limits contract node a)
-    unfolding branchAt
+        → Good s K F ds ns 0 0 a → Ends (Good s K F ds ns 0 0) (readBranch s limits contract node a)
+    unfolding readBranch
     branch-good node a l q g =
         number-goes g _ _ λ v e i j g₁.
         ends-test _ _ _ (λ z. refused) λ z.
@@ -215,6 +215,6 @@ module _ (s : List ℕ) (K F d S : ℕ) (ds : List DefEntry) (few : S ≤ 8) (la
       branch-good _ (with-good _ (inside-good k)) ms (length (a .nodes)) c there its)
       (λ c g₂. good-since g₂ (begins-on (g .kept) (begins-more _ x)))
 
-  pub contract-good : (k : ℕ) → Reads (contractAt s limits k)
-  unfolding contractAt
+  pub contract-good : (k : ℕ) → Reads (readContract s limits k)
+  unfolding readContract
   contract-good k = with-good _ (inside-good k)

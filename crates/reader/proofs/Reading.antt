@@ -8,7 +8,7 @@ use lib.ListN.{length, getD}
 use lib.Dec.{ltb, eqb}
 use Rattle.fields.specs.declared.Got.{Got}
 use Rattle.fields.specs.declared.Got.the-variants.{Value, Bad}
-use Rattle.fields.specs.Field.{spelled, after, belowAt, firstAt}
+use Rattle.fields.specs.Field.{spelled, whenRead, belowAt, firstAt}
 use Rattle.fields.proofs.Ranges.{below-end}
 use Rattle.tables.specs.Entries.{held, people, defIn}
 use Rattle.tables.specs.SheetOf.{nodeEntryAt, defEntryAt}
@@ -30,19 +30,19 @@ use Rattle.reader.specs.Request.{Reading, refusedAt, fromRows, fromPart,
 
 -- ---- rows are read by the counts of branches of nodes that there are
 
-after-same : {A : Type 0} (bad : ℕ → ℕ → A) (g : Got) (go go′ : ℕ → ℕ → A) → ((v e : ℕ) → g ≡ Value v e → go v e ≡ go′ v e) → after bad g go ≡ after bad g go′
-unfolding after
-after-same bad (Value v e) go go′ h = h v e refl
-after-same bad (Bad n p) go go′ h = refl
+when-read-same : {A : Type 0} (bad : ℕ → ℕ → A) (g : Got) (go go′ : ℕ → ℕ → A) → ((v e : ℕ) → g ≡ Value v e → go v e ≡ go′ v e) → whenRead bad g go ≡ whenRead bad g go′
+unfolding whenRead
+when-read-same bad (Value v e) go go′ h = h v e refl
+when-read-same bad (Bad n p) go go′ h = refl
 
 module _ (s : List ℕ) (f g : ℕ → ℕ) (nodes : ℕ) (same : (n : ℕ) → n < nodes → f n ≡ g n) where
   numbers-same : (at : ℕ) → rowNumbersAt s f nodes at ≡ rowNumbersAt s g nodes at
   unfolding rowNumbersAt
-  numbers-same at = after-same line.Bad (belowAt s at nodes) _ _ λ n e h. rw (same n (below-end s at nodes n e h .0))
+  numbers-same at = when-read-same line.Bad (belowAt s at nodes) _ _ λ n e h. rw (same n (below-end s at nodes n e h .0))
 
   row-same : (at : ℕ) → rowAt s f nodes at ≡ rowAt s g nodes at
   unfolding rowAt
-  row-same at = after-same line.Bad (firstAt s at) _ _ λ w e h. rw (numbers-same e)
+  row-same at = when-read-same line.Bad (firstAt s at) _ _ λ w e h. rw (numbers-same e)
 
   line-same : (xs : List Row) (go go′ : List Row → ℕ → Rows) (l : RowLine) → ((ys : List Row) (e : ℕ) → go ys e ≡ go′ ys e) → withLine xs go l ≡ withLine xs go′ l
   unfolding withLine

@@ -8,8 +8,8 @@ use lib.ListN.{length, set, drop}
 use lib.Seq.{drop-drop, drop-set-lt, sets}
 use borrow.Author.Tests.{lt-ltb, le-ltb}
 use Rattle.fields.proofs.Laws.{number-end, word-end}
-use Rattle.fields.proofs.Ranges.{after-cases, cond-cases, never}
-use Rattle.fields.specs.Field.{spelled, after, numberAt, wordAt}
+use Rattle.fields.proofs.Ranges.{when-read-cases, cond-cases, never}
+use Rattle.fields.specs.Field.{spelled, whenRead, numberAt, wordAt}
 use Rattle.fields.specs.declared.Got.{Got}
 use Rattle.fields.specs.declared.Got.the-variants.{Value, Bad}
 use Rattle.tables.specs.Entries.{firstOf}
@@ -25,11 +25,11 @@ use Rattle.requests.specs.declared.RowLine.the-variants as line
 
 module _ (s : List ℕ) (n at : ℕ) (g : Got) (more : 0 < n) (read : g ≡ pastValueAt s at) where
   pub values-on : (v e : ℕ) → g ≡ Value v e → pastValuesAt s (n - 1) e ≡ pastValuesAt s n at
-  unfolding pastValuesAt after
+  unfolding pastValuesAt whenRead
   values-on v e h = let k : n ≡ suc (n - 1) = omega arith in rw (k, ← read, h) (let z : suc (n - 1) - 1 ≡ n - 1 = omega arith in rw z)
 
   pub values-bad : (m p : ℕ) → g ≡ Bad m p → g ≡ pastValuesAt s n at
-  unfolding pastValuesAt after
+  unfolding pastValuesAt whenRead
   values-bad m p h = let k : n ≡ suc (n - 1) = omega arith in rw (k, ← read, h)
 
 pub values-end : (s : List ℕ) (n at : ℕ) → n ≤ 0 → pastValuesAt s n at ≡ Value 0 at
@@ -41,10 +41,10 @@ values-end s (suc n) at h = absurd (omega arith)
 pub past-end : (s : List ℕ) (at v q : ℕ) → pastValueAt s at ≡ Value v q → (at < q) × (q ≤ length s)
 unfolding pastValueAt valueAt pastOf
 past-end s at v q =
-    after-cases (λ c. pastOf c ≡ Value v q → (at < q) × (q ≤ length s)) commitment.Bad (wordAt s at) _ (λ m p h. never m p v q h) λ w e g.
+    when-read-cases (λ c. pastOf c ≡ Value v q → (at < q) × (q ≤ length s)) commitment.Bad (wordAt s at) _ (λ m p h. never m p v q h) λ w e g.
     cond-cases (λ c. pastOf c ≡ Value v q → (at < q) × (q ≤ length s)) (eqb w (spelled "x")) (commitment.Ill e) _
     (λ b h. let j : e ≡ q = cc in let k = word-end s at w e g in (omega arith, omega arith))
-    (λ b. after-cases (λ c. pastOf c ≡ Value v q → (at < q) × (q ≤ length s)) commitment.Bad (numberAt s at mostValue) commitment.Number (λ m p h. never m p v q h)
+    (λ b. when-read-cases (λ c. pastOf c ≡ Value v q → (at < q) × (q ≤ length s)) commitment.Bad (numberAt s at mostValue) commitment.Number (λ m p h. never m p v q h)
     λ u f i h. let j : f ≡ q = cc in let k = number-end s at mostValue u f i in (omega arith, omega arith))
 
 -- ---- a buffer's rows

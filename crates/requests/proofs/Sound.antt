@@ -8,8 +8,8 @@ use native.Mathlib.Omega.{arith}
 use lib.Dec.{ltb, eqb}
 use lib.ListN.{length, getD, length-append, List·getD-append}
 use lib.Seq.{getD-at}
-use Rattle.fields.proofs.Ranges.{after-cases, cond-cases, never, below-end, between-end, line-end-next}
-use Rattle.fields.specs.Field.{spelled, after, belowAt, betweenAt, firstAt, lineEndAt}
+use Rattle.fields.proofs.Ranges.{when-read-cases, cond-cases, never, below-end, between-end, line-end-next}
+use Rattle.fields.specs.Field.{spelled, whenRead, belowAt, betweenAt, firstAt, lineEndAt}
 use Rattle.fields.specs.declared.Got.the-variants.{Value, Bad}
 use Rattle.requests.proofs.Laws.{past-end}
 use Rattle.requests.specs.Part.{participantAt, pastValueAt, pastValuesAt, makeAt, checkAt, playAt, lastPartAt}
@@ -32,8 +32,8 @@ PartSound s people secrets (part.Bad n p) = Unit {0}
 participant-end : (s : List ℕ) (people at p q : ℕ) → participantAt s people at ≡ Value p q → (p < people) × (q ≤ length s)
 unfolding participantAt
 participant-end s people at p q =
-    after-cases (λ r. r ≡ Value p q → (p < people) × (q ≤ length s)) Bad (belowAt s at people) _ (λ m o h. never m o p q h) λ w e g.
-    after-cases (λ r. r ≡ Value p q → (p < people) × (q ≤ length s)) Bad (lineEndAt s e) _ (λ m o h. never m o p q h) λ v f k h.
+    when-read-cases (λ r. r ≡ Value p q → (p < people) × (q ≤ length s)) Bad (belowAt s at people) _ (λ m o h. never m o p q h) λ w e g.
+    when-read-cases (λ r. r ≡ Value p q → (p < people) × (q ≤ length s)) Bad (lineEndAt s e) _ (λ m o h. never m o p q h) λ v f k h.
     let i : w ≡ p = cc in let j : f ≡ q = cc in
     let field = below-end s at people w e g in
     let end = line-end-next s e v f k in
@@ -43,7 +43,7 @@ values-ahead : (s : List ℕ) (n at v q : ℕ) → pastValuesAt s n at ≡ Value
 unfolding pastValuesAt
 values-ahead s zero at v q = λ h. let i : 0 ≡ v = cc in let j : at ≡ q = cc in (omega arith, omega arith)
 values-ahead s (suc n) at v q =
-    after-cases (λ r. r ≡ Value v q → (v ≡ 0) × (at ≤ q)) Bad (pastValueAt s at) _ (λ m o h. never m o v q h) λ w e g h.
+    when-read-cases (λ r. r ≡ Value v q → (v ≡ 0) × (at ≤ q)) Bad (pastValueAt s at) _ (λ m o h. never m o v q h) λ w e g h.
     let one = past-end s at w e g in
     let rest = values-ahead s n e v q h in
     (rest .0, omega arith)
@@ -56,18 +56,18 @@ module _ (s : List ℕ) (people secrets : ℕ) where
   make-sound : (e : ℕ) → PartSound s people secrets (makeAt s people e)
   unfolding makeAt PartSound
   make-sound e =
-      after-cases (PartSound s people secrets) part.Bad (participantAt s people e) _ bad λ p f g.
+      when-read-cases (PartSound s people secrets) part.Bad (participantAt s people e) _ bad λ p f g.
       cond-cases (PartSound s people secrets) (ltb f (length s)) (part.Bad 9 f) (part.Make p) (λ t. bad 9 f) (λ t. participant-end s people e p f g .0)
 
   check-sound : (e : ℕ) → PartSound s people secrets (checkAt s people e)
   unfolding checkAt PartSound
-  check-sound e = after-cases (PartSound s people secrets) part.Bad (participantAt s people e) _ bad λ p f g. participant-end s people e p f g
+  check-sound e = when-read-cases (PartSound s people secrets) part.Bad (participantAt s people e) _ bad λ p f g. participant-end s people e p f g
 
   play-sound : (e : ℕ) → PartSound s people secrets (playAt s secrets e)
   unfolding playAt PartSound
   play-sound e =
-      after-cases (PartSound s people secrets) part.Bad (pastValuesAt s secrets e) _ bad λ v f g.
-      after-cases (PartSound s people secrets) part.Bad (lineEndAt s f) _ bad λ w z h.
+      when-read-cases (PartSound s people secrets) part.Bad (pastValuesAt s secrets e) _ bad λ v f g.
+      when-read-cases (PartSound s people secrets) part.Bad (lineEndAt s f) _ bad λ w z h.
       let values = values-ahead s secrets e v f g in
       let end = line-end-next s f w z h in
       (let k : z - 1 ≡ f = omega arith in rw (g, k, values .0), omega arith, omega arith)
@@ -75,7 +75,7 @@ module _ (s : List ℕ) (people secrets : ℕ) where
   pub part-sound : (at : ℕ) → PartSound s people secrets (lastPartAt s people secrets at)
   unfolding lastPartAt
   part-sound at =
-      after-cases (PartSound s people secrets) part.Bad (firstAt s at) _ bad λ w e g.
+      when-read-cases (PartSound s people secrets) part.Bad (firstAt s at) _ bad λ w e g.
       cond-cases (PartSound s people secrets) (eqb w (spelled "make")) (makeAt s people e) _ (λ t. make-sound e) λ t.
       cond-cases (PartSound s people secrets) (eqb w (spelled "check")) (checkAt s people e) _ (λ t. check-sound e) λ t.
       cond-cases (PartSound s people secrets) (eqb w (spelled "play")) (playAt s secrets e) (part.Bad 3 at) (λ t. play-sound e) λ t.
@@ -101,12 +101,12 @@ module _ (s : List ℕ) (counts : ℕ → ℕ) (nodes : ℕ) where
   line-sound : (at : ℕ) → LineSound counts nodes (rowAt s counts nodes at)
   unfolding rowAt rowNumbersAt LineSound
   line-sound at =
-      after-cases (LineSound counts nodes) line.Bad (firstAt s at) _ (λ m p. tt) λ w e g.
+      when-read-cases (LineSound counts nodes) line.Bad (firstAt s at) _ (λ m p. tt) λ w e g.
       cond-cases (LineSound counts nodes) (eqb w (spelled "row")) _ (line.Bad 3 at)
-      (λ x. after-cases (LineSound counts nodes) line.Bad (belowAt s e nodes) _ (λ m p. tt) λ n f h.
-      after-cases (LineSound counts nodes) line.Bad (belowAt s f (counts n)) _ (λ m p. tt) λ b q i.
-      after-cases (LineSound counts nodes) line.Bad (betweenAt s q 1 mostRank) _ (λ m p. tt) λ k z j.
-      after-cases (LineSound counts nodes) line.Bad (lineEndAt s z) _ (λ m p. tt) λ v y l.
+      (λ x. when-read-cases (LineSound counts nodes) line.Bad (belowAt s e nodes) _ (λ m p. tt) λ n f h.
+      when-read-cases (LineSound counts nodes) line.Bad (belowAt s f (counts n)) _ (λ m p. tt) λ b q i.
+      when-read-cases (LineSound counts nodes) line.Bad (betweenAt s q 1 mostRank) _ (λ m p. tt) λ k z j.
+      when-read-cases (LineSound counts nodes) line.Bad (lineEndAt s z) _ (λ m p. tt) λ v y l.
       let rank = between-end s q 1 mostRank k z j in
       record {
         has-node = below-end s e nodes n f h .0;
@@ -129,7 +129,7 @@ module _ (s : List ℕ) (counts : ℕ → ℕ) (nodes : ℕ) where
   full : {Q : Type 0} (at n e : ℕ) → noRoomAt s at ≡ Value n e → Q
   unfolding noRoomAt
   full {Q} at n e =
-      after-cases (λ r. r ≡ Value n e → Q) Bad (firstAt s at) _ (λ m p h. never m p n e h) λ w f g.
+      when-read-cases (λ r. r ≡ Value n e → Q) Bad (firstAt s at) _ (λ m p h. never m p n e h) λ w f g.
       cond-cases (λ r. r ≡ Value n e → Q) (eqb w (spelled "row")) (Bad 7 at) (Bad 3 at) (λ b h. never 7 at n e h) (λ b h. never 3 at n e h)
 
   line-on : (xs : List Row) (left : ℕ) (go : List Row → ℕ → Rows) (l : RowLine) → LineSound counts nodes l → Fit counts nodes xs

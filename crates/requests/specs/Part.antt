@@ -4,7 +4,7 @@ use mathlib.Core.Bool.{cond}
 use mathlib.Core.List.{List}
 use lib.Dec.{ltb, eqb}
 use lib.ListN.{length}
-use Rattle.fields.specs.Field.{spelled, after, numberAt, belowAt, wordAt, firstAt, lineEndAt}
+use Rattle.fields.specs.Field.{spelled, whenRead, numberAt, belowAt, wordAt, firstAt, lineEndAt}
 use Rattle.fields.specs.declared.Got.{Got}
 use Rattle.fields.specs.declared.Got.the-variants.{Value, Bad}
 use Rattle.requests.specs.declared.Commitment.{Commitment}
@@ -20,9 +20,9 @@ mostValue = 1_000_000_000
 -- "a value for each secret (0 to 1,000,000,000, or `x`, an ill-formed commitment)"
 unfoldable pub valueAt : List ℕ → ℕ → Commitment
 valueAt s at =
-    after commitment.Bad (wordAt s at) λ w e.
+    whenRead commitment.Bad (wordAt s at) λ w e.
     cond (eqb w (spelled "x")) (commitment.Ill e)
-    (after commitment.Bad (numberAt s at mostValue) commitment.Number)
+    (whenRead commitment.Bad (numberAt s at mostValue) commitment.Number)
 
 -- the position after it
 unfoldable pub pastOf : Commitment → Got
@@ -36,33 +36,33 @@ pastValueAt s at = pastOf (valueAt s at)
 -- the position after n of them
 unfoldable pub pastValuesAt : List ℕ → ℕ → ℕ → Got
 pastValuesAt s zero at = Value 0 at
-pastValuesAt s (suc n) at = after Bad (pastValueAt s at) λ v e. pastValuesAt s n e
+pastValuesAt s (suc n) at = whenRead Bad (pastValueAt s at) λ v e. pastValuesAt s n e
 
 -- ---- "Then one last part: `make`,P; or `check`,P and [..] lines `row` [..]; or `play` with a value for each secret of definition 0 [..] and event lines."
 
 -- P, and the position after the line
 unfoldable pub participantAt : List ℕ → ℕ → ℕ → Got
 participantAt s people at =
-    after Bad (belowAt s at people) λ p e.
-    after Bad (lineEndAt s e) λ v f. Value p f
+    whenRead Bad (belowAt s at people) λ p e.
+    whenRead Bad (lineEndAt s e) λ v f. Value p f
 
 -- no line follows: "a field too many, or a line (at its field 1)"
 unfoldable pub makeAt : List ℕ → ℕ → ℕ → Part
 makeAt s people at =
-    after part.Bad (participantAt s people at) λ p e.
+    whenRead part.Bad (participantAt s people at) λ p e.
     cond (ltb e (length s)) (part.Bad 9 e) (part.Make p)
 
 unfoldable pub checkAt : List ℕ → ℕ → ℕ → Part
-checkAt s people at = after part.Bad (participantAt s people at) part.Check
+checkAt s people at = whenRead part.Bad (participantAt s people at) part.Check
 
 unfoldable pub playAt : List ℕ → ℕ → ℕ → Part
 playAt s secrets at =
-    after part.Bad (pastValuesAt s secrets at) λ v e.
-    after part.Bad (lineEndAt s e) λ v f. part.Play at f
+    whenRead part.Bad (pastValuesAt s secrets at) λ v e.
+    whenRead part.Bad (lineEndAt s e) λ v f. part.Play at f
 
 unfoldable pub lastPartAt : List ℕ → ℕ → ℕ → ℕ → Part
 lastPartAt s people secrets at =
-    after part.Bad (firstAt s at) λ w e.
+    whenRead part.Bad (firstAt s at) λ w e.
     cond (eqb w (spelled "make")) (makeAt s people e)
     (cond (eqb w (spelled "check")) (checkAt s people e)
     (cond (eqb w (spelled "play")) (playAt s secrets e)

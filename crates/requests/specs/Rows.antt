@@ -6,7 +6,7 @@ use mathlib.Core.Path.{_≡_}
 use lib.Dec.{ltb, eqb}
 use lib.ListN.{length, getD, drop}
 use Rattle.bitml.specs.Rows.{Row}
-use Rattle.fields.specs.Field.{spelled, after, belowAt, betweenAt, firstAt, lineEndAt}
+use Rattle.fields.specs.Field.{spelled, whenRead, belowAt, betweenAt, firstAt, lineEndAt}
 use Rattle.fields.specs.declared.Got.{Got}
 use Rattle.fields.specs.declared.Got.the-variants.{Value, Bad}
 use Rattle.requests.specs.declared.RowLine.{RowLine}
@@ -60,17 +60,17 @@ module _ (s : List ℕ) (counts : ℕ → ℕ) (nodes : ℕ) where
   -- "lines `row`,node,branch,rank (1 to 65,535)": 6 where there is no such node, or it has no such branch
   unfoldable pub rowNumbersAt : ℕ → RowLine
   rowNumbersAt at =
-      after line.Bad (belowAt s at nodes) λ n e.
-      after line.Bad (belowAt s e (counts n)) λ b f.
-      after line.Bad (betweenAt s f 1 mostRank) λ k q.
-      after line.Bad (lineEndAt s q) λ v z. line.Row n b k z
+      whenRead line.Bad (belowAt s at nodes) λ n e.
+      whenRead line.Bad (belowAt s e (counts n)) λ b f.
+      whenRead line.Bad (betweenAt s f 1 mostRank) λ k q.
+      whenRead line.Bad (lineEndAt s q) λ v z. line.Row n b k z
 
   unfoldable pub rowAt : ℕ → RowLine
-  rowAt at = after line.Bad (firstAt s at) λ w e. cond (eqb w (spelled "row")) (rowNumbersAt e) (line.Bad 3 at)
+  rowAt at = whenRead line.Bad (firstAt s at) λ w e. cond (eqb w (spelled "row")) (rowNumbersAt e) (line.Bad 3 at)
 
 -- "512 rows passed (.. rows at the word `row`, ..)"
 unfoldable pub noRoomAt : List ℕ → ℕ → Got
-noRoomAt s at = after Bad (firstAt s at) λ w e. cond (eqb w (spelled "row")) (Bad 7 at) (Bad 3 at)
+noRoomAt s at = whenRead Bad (firstAt s at) λ w e. cond (eqb w (spelled "row")) (Bad 7 at) (Bad 3 at)
 
 -- one line more, and the lines after it
 unfoldable pub withLine : List Row → (List Row → ℕ → Rows) → RowLine → Rows

@@ -10,7 +10,7 @@ use Rattle.tables.specs.State.{State, entries, withNode, withBranch, nodeEntry}
 use Rattle.steps.specs.Steps.{Outcome, toPlace, twice, times}
 use Rattle.conditions.specs.Condition.{storeAt, constantAt, clausesAt, secretAt, operandsAt, expressionWith, expressionIn, expressionAt, conditionWith, conditionIn, conditionAt}
 use Rattle.contracts.specs.declared.Limits.{Limits}
-use Rattle.contracts.specs.Contract.{ContractReader, holdAt, leafAt, weighedAt, splitAt, listAt, openAt, revealAt, contractWith, actionAt, branchAt, insideAt, contractAt}
+use Rattle.contracts.specs.Contract.{ContractReader, holdAt, leafAt, weighedAt, splitAt, listAt, openAt, revealAt, contractWith, actionAt, readBranch, insideAt, readContract}
 use Rattle.trees.specs.Tree.{Kind, one, many, parts, Tree, pay, renew, split, reveal, end, also, last, weigh, Contract, size, weights, Weighed}
 use Rattle.trees.specs.Listing.{Listing, listingOf, addNode, addBranch, headOf, splitEntry, revealEntry, write, writeContract}
 use Rattle.steps.proofs.Ends.{Ends, good, refused, ends-map, ends-go, ends-either, ends-test, ends-then}
@@ -180,13 +180,13 @@ module _ (s : List ℕ) (lim : Limits) (contract : ContractReader) (reads : Read
         (ends-either _ _ _ (reveal-reads _ a f)
         (ends-either _ _ _ (renew-reads a f) refused)))
 
-  branch-reads : (m : ℕ) (a : State) → Ends (One m (listing a)) (branchAt s lim contract m a)
-  unfolding branchAt
+  branch-reads : (m : ℕ) (a : State) → Ends (One m (listing a)) (readBranch s lim contract m a)
+  unfolding readBranch
   branch-reads m a =
       ends-go _ _ _ λ g e. ends-either _ _ _ refused
       (ends-test _ _ _ (λ _. refused) λ z. ends-go _ _ _ λ t f. ends-go _ _ _ λ w h. action-reads m g t _ (toPlace a h) w (leb-false _ _ z))
 
-  branches-read : (m n : ℕ) (a : State) → Few a → Ends (Lists many (λ x. size x ≡ n) (lim .def) m (listing a)) (times n (branchAt s lim contract m) a)
+  branches-read : (m n : ℕ) (a : State) → Few a → Ends (Lists many (λ x. size x ≡ n) (lim .def) m (listing a)) (times n (readBranch s lim contract m) a)
   unfolding times size write Weighed
   branches-read m zero a f = good (record { few = f; tree = end; known = refl; weighed = tt; same = refl })
   branches-read m (suc n) a f =
@@ -220,6 +220,6 @@ module _ (s : List ℕ) (lim : Limits) where
       })
 
   -- a contract that is read is a tree: what is listed then is its listing after what was listed before
-  pub reads-tree : (d : ℕ) → Reads (lim .def) (contractAt s lim d)
-  unfolding contractAt
+  pub reads-tree : (d : ℕ) → Reads (lim .def) (readContract s lim d)
+  unfolding readContract
   reads-tree d = with-reads _ (inside-reads d)

@@ -8,35 +8,39 @@ use Rattle.conditions.proofs.both_expressions.Tie as tie
 
 expression-requires : tie.Need-expression-requires
 expression-requires c κs =
-    c .before .before .before .pre
+    let c3 = c .before .before .before in
+    c3 .pre
 
 enum-known-g : tie.Need-enum-known-g
-enum-known-g c =
-    search needs
+enum-known-g c = search needs
 
 enum-told : tie.Need-enum-told
-enum-told c =
-    search needs
+enum-told c = search needs
 
 same-length : tie.Need-same-length
 same-length c =
-    c .before .before .before .before .expression .kept .1 .1 .1 .1 .1 .0
+    let c4 = c .before .before .before .before in
+    c4 .expression .kept .1 .1 .1 .1 .1 .0
 
 returns : tie.Need-returns
 returns c =
-    call-refused _ (c .before .before .before .before .expression .ensures) (c .enum-told .given .1)
+    let c4 = c .before .before .before .before in
+    call-refused _ (c4 .expression .ensures) (c .enum-told .given .1)
 
 expression-requires-2 : tie.Need-expression-requires-2
 expression-requires-2 c κs =
-    let k = promised (c .before .before .before .before .before .before .expression .ensures) (c .before .before .g .given .1) in (omega (arith, c .before .before .before .before .before .before .expression .kept .1 .1 .1 .1 .1 .0, c .before .before .before .before .before .before .before .before .before .before .pre .0), ready-kept (c .before .before .before .before .before .before .before .before .before .before .pre .1) k)
+    let c2 = c .before .before in let c6 = c2 .before .before .before .before in let c10 = c6 .before .before .before .before in
+    let k = promised (c6 .expression .ensures) (c2 .g .given .1) in (omega (arith, c6 .expression .kept .1 .1 .1 .1 .1 .0, c10 .pre .0), ready-kept (c10 .pre .1) k)
 
 same-length-2 : tie.Need-same-length-2
 same-length-2 c =
-    c .before .before .expression2 .kept .1 .1 .1 .1 .1 .0 ∙ c .before .before .before .before .before .before .before .before .before .expression .kept .1 .1 .1 .1 .1 .0
+    let c2 = c .before .before in let c9 = c2 .before .before .before .before .before .before .before in
+    c2 .expression2 .kept .1 .1 .1 .1 .1 .0 ∙ c9 .expression .kept .1 .1 .1 .1 .1 .0
 
 returns-2 : tie.Need-returns-2
 returns-2 c =
-    let k = promised (c .before .before .before .before .before .before .before .before .before .expression .ensures) (c .before .before .before .before .before .g .given .1) in called _ (c .before .before .before .before .before .before .before .before .before .expression .ensures) (c .before .before .before .before .before .g .given .1) (also (λ e q. kept-kept k q) (c .before .before .expression2 .ensures))
+    let c2 = c .before .before in let c5 = c2 .before .before .before in let c9 = c5 .before .before .before .before in
+    let k = promised (c9 .expression .ensures) (c5 .g .given .1) in called _ (c9 .expression .ensures) (c5 .g .given .1) (also (λ e q. kept-kept k q) (c2 .expression2 .ensures))
 
 pub both-expressions-spec : {M : Type 1} → statement M
 both-expressions-spec =

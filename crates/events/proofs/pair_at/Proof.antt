@@ -1,6 +1,6 @@
 use borrow.Author.Needs.{needs}
 use Rattle.events.specs.Events.{pairAt}
-use Rattle.fields.specs.Field.{after}
+use Rattle.fields.specs.Field.{whenRead}
 use Rattle.events.proofs.pair_at.Statement.{statement}
 use Rattle.events.proofs.pair_at.Tie as tie
 
@@ -23,15 +23,15 @@ enum-known-g-2 : tie.Need-enum-known-g-2
 enum-known-g-2 c = search needs
 
 returns : tie.Need-returns
-unfolding pairAt after
+unfolding pairAt whenRead
 returns c = rw (← c .before .before .before .before .before .before .before .number .ensures, c .before .before .before .before .before .g .given .1, ← c .before .before .before .number2 .ensures, c .before .h .given .1)
 
 returns-2 : tie.Need-returns-2
-unfolding pairAt after
+unfolding pairAt whenRead
 returns-2 c = rw (← c .before .before .before .before .before .before .before .number .ensures, c .before .before .before .before .before .g .given .1, ← c .before .before .before .number2 .ensures, c .before .h2 .given .1)
 
 returns-3 : tie.Need-returns-3
-unfolding pairAt after
+unfolding pairAt whenRead
 returns-3 c = rw (← c .before .before .before .number .ensures, c .before .g2 .given .1)
 
 pub pair-at-spec : {M : Type 1} → statement M

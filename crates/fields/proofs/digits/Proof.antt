@@ -3,14 +3,14 @@ use mathlib.Core.Path.{_≡_, refl, sym, ap, _∙_}
 use native.Mathlib.Omega.{arith}
 use lib.ListN.{length, getD, drop}
 use borrow.Author.Needs.{needs}
-use Rattle.fields.proofs.Laws.{ten-more, ten-below, digits-end, digits-below, digits-above, digits-more, value-end, value-more}
-use Rattle.fields.specs.Field.{allDigits, value, digitsOf}
+use Rattle.fields.proofs.Laws.{ten-more, ten-below, digits-end, digits-below, digits-above, digits-more, digits-on-end, digits-on-more}
+use Rattle.fields.specs.Field.{allDigits, digitsOn, digitsOf}
 use Rattle.fields.specs.declared.Num.the-variants.{Is}
 use Rattle.fields.proofs.digits.Statement.{statement}
 use Rattle.fields.proofs.digits.Tie as tie
 
 abbrev Inv-loop : tie.InvT-loop
-Inv-loop text v₀ i₀ v i = (i ≤ length text) × (v < 10 ^ i) × (allDigits (drop i text) ≡ allDigits text) × (value v (drop i text) ≡ value 0 text)
+Inv-loop text v₀ i₀ v i = (i ≤ length text) × (v < 10 ^ i) × (allDigits (drop i text) ≡ allDigits text) × (digitsOn v (drop i text) ≡ digitsOn 0 text)
 
 abbrev μ-loop : tie.MeasureT-loop
 μ-loop text v₀ i₀ v i = length text - i
@@ -43,7 +43,7 @@ loop-again c = let i = c .before .before .before .before .before .loop .i in
       omega arith,
       ten-more i (inv .1) (omega arith),
       let hi : getD (c .before .before .before .before .before .before .before .args .text .now) i 0 ≤ 57 = omega arith in sym (digits-more _ i lt (c .before .before .if1 .left) hi) ∙ inv .2,
-      rw (c .wide .ensures) (sym (value-more _ i _ lt) ∙ inv .3),
+      rw (c .wide .ensures) (sym (digits-on-more _ i _ lt) ∙ inv .3),
     )
 
 returns : tie.Need-returns Inv-loop μ-loop
@@ -56,7 +56,7 @@ returns-2 c = rw (← c .before .before .before .before .loop .inv .2, digits-ab
 
 returns-3 : tie.Need-returns-3 Inv-loop μ-loop
 unfolding digitsOf
-returns-3 c = rw (← c .before .loop .inv .2, digits-end _ _ (c .loop-test .left)) (ap Is (sym (value-end _ _ _ (c .loop-test .left)) ∙ c .before .loop .inv .3))
+returns-3 c = rw (← c .before .loop .inv .2, digits-end _ _ (c .loop-test .left)) (ap Is (sym (digits-on-end _ _ _ (c .loop-test .left)) ∙ c .before .loop .inv .3))
 
 pub digits-spec : {M : Type 1} → statement M
 digits-spec =

@@ -1,6 +1,6 @@
 use borrow.Author.Needs.{needs}
 use borrow.Author.Tests.{le-ltb, lt-ltb}
-use Rattle.fields.specs.Field.{belowAt, after}
+use Rattle.fields.specs.Field.{belowAt, whenRead}
 use Rattle.fields.proofs.number_below.Statement.{statement}
 use Rattle.fields.proofs.number_below.Tie as tie
 
@@ -14,15 +14,15 @@ enum-told : tie.Need-enum-told
 enum-told c = search needs
 
 returns : tie.Need-returns
-unfolding belowAt after
+unfolding belowAt whenRead
 returns c = rw (← c .before .before .number .ensures, c .enum-told .given .1)
 
 returns-2 : tie.Need-returns-2
-unfolding belowAt after
+unfolding belowAt whenRead
 returns-2 c = rw (← c .before .before .before .before .number .ensures, c .before .before .g .given .1, lt-ltb _ _ (c .if1 .taken))
 
 returns-3 : tie.Need-returns-3
-unfolding belowAt after
+unfolding belowAt whenRead
 returns-3 c = rw (← c .before .before .before .before .number .ensures, c .before .before .g .given .1, le-ltb _ _ (c .if1 .left))
 
 pub number-below-spec : {M : Type 1} → statement M

@@ -1,6 +1,6 @@
 use borrow.Author.Needs.{needs}
 use borrow.Author.Tests.{le-ltb, lt-ltb}
-use Rattle.fields.specs.Field.{betweenAt, after}
+use Rattle.fields.specs.Field.{betweenAt, whenRead}
 use Rattle.fields.proofs.number_between.Statement.{statement}
 use Rattle.fields.proofs.number_between.Tie as tie
 
@@ -14,15 +14,15 @@ enum-told : tie.Need-enum-told
 enum-told c = search needs
 
 returns : tie.Need-returns
-unfolding betweenAt after
+unfolding betweenAt whenRead
 returns c = rw (← c .before .before .number .ensures, c .enum-told .given .1)
 
 returns-2 : tie.Need-returns-2
-unfolding betweenAt after
+unfolding betweenAt whenRead
 returns-2 c = rw (← c .before .before .before .before .number .ensures, c .before .before .g .given .1, lt-ltb _ _ (c .if1 .taken))
 
 returns-3 : tie.Need-returns-3
-unfolding betweenAt after
+unfolding betweenAt whenRead
 returns-3 c = rw (← c .before .before .before .before .number .ensures, c .before .before .g .given .1, le-ltb _ _ (c .if1 .left))
 
 pub number-between-spec : {M : Type 1} → statement M

@@ -1,4 +1,4 @@
-use Rattle.fields.specs.Field.{after}
+use Rattle.fields.specs.Field.{whenRead}
 use Rattle.lines.specs.LineOne.{countsAt}
 use borrow.Author.Needs.{needs}
 use Rattle.lines.proofs.counts.Statement.{statement}
@@ -32,19 +32,19 @@ enum-known-h-2 : tie.Need-enum-known-h-2
 enum-known-h-2 c = search needs
 
 returns : tie.Need-returns
-unfolding countsAt after
+unfolding countsAt whenRead
 returns c = rw (← c .before .before .before .before .before .before .before .before .before .before .before .number-between .ensures, c .before .before .before .before .before .before .before .before .before .h .given .1, ← c .before .before .before .before .before .before .before .number-between2 .ensures, c .before .before .before .before .before .i .given .1, ← c .before .before .before .line-end .ensures, c .before .l .given .1)
 
 returns-2 : tie.Need-returns-2
-unfolding countsAt after
+unfolding countsAt whenRead
 returns-2 c = rw (← c .before .before .before .before .before .before .before .before .before .before .before .number-between .ensures, c .before .before .before .before .before .before .before .before .before .h .given .1, ← c .before .before .before .before .before .before .before .number-between2 .ensures, c .before .before .before .before .before .i .given .1, ← c .before .before .before .line-end .ensures, c .before .l2 .given .1)
 
 returns-3 : tie.Need-returns-3
-unfolding countsAt after
+unfolding countsAt whenRead
 returns-3 c = rw (← c .before .before .before .before .before .before .before .number-between .ensures, c .before .before .before .before .before .h .given .1, ← c .before .before .before .number-between2 .ensures, c .before .i2 .given .1)
 
 returns-4 : tie.Need-returns-4
-unfolding countsAt after
+unfolding countsAt whenRead
 returns-4 c = rw (← c .before .before .before .number-between .ensures, c .before .h2 .given .1)
 
 pub counts-spec : {M : Type 1} → statement M

@@ -1,4 +1,4 @@
-use Rattle.fields.specs.Field.{after}
+use Rattle.fields.specs.Field.{whenRead}
 use Rattle.lines.specs.LineOne.{lineOneAt}
 use borrow.Author.Tests.{eq-eqb, ne-eqb}
 use borrow.Author.Needs.{needs}
@@ -15,18 +15,18 @@ counts-requires : tie.Need-counts-requires
 counts-requires c κs = search needs
 
 returns : tie.Need-returns
-unfolding lineOneAt after
+unfolding lineOneAt whenRead
 returns c = rw (← c .before .before .before .before .before .first .ensures, c .before .before .before .g .given .1, eq-eqb _ _ (c .before .if1 .taken), ← c .counts .ensures)
 
 enum-known-g-2 : tie.Need-enum-known-g-2
 enum-known-g-2 c = search needs
 
 returns-2 : tie.Need-returns-2
-unfolding lineOneAt after
+unfolding lineOneAt whenRead
 returns-2 c = rw (← c .before .before .before .before .first .ensures, c .before .before .g .given .1, ne-eqb _ _ (c .if1 .left))
 
 returns-3 : tie.Need-returns-3
-unfolding lineOneAt after
+unfolding lineOneAt whenRead
 returns-3 c = rw (← c .before .before .before .first .ensures, c .before .g2 .given .1)
 
 pub line-one-spec : {M : Type 1} → statement M

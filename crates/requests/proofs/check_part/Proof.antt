@@ -1,5 +1,5 @@
 use borrow.Author.Needs.{needs}
-use Rattle.fields.specs.Field.{after}
+use Rattle.fields.specs.Field.{whenRead}
 use Rattle.requests.specs.Part.{checkAt}
 use Rattle.requests.proofs.check_part.Statement.{statement}
 use Rattle.requests.proofs.check_part.Tie as tie
@@ -14,11 +14,11 @@ enum-known-g-2 : tie.Need-enum-known-g-2
 enum-known-g-2 c = search needs
 
 returns : tie.Need-returns
-unfolding checkAt after
+unfolding checkAt whenRead
 returns c = rw (← c .before .before .before .participant .ensures, c .before .g .given .1)
 
 returns-2 : tie.Need-returns-2
-unfolding checkAt after
+unfolding checkAt whenRead
 returns-2 c = rw (← c .before .before .before .participant .ensures, c .before .g2 .given .1)
 
 pub check-part-spec : {M : Type 1} → statement M

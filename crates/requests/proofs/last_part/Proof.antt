@@ -1,6 +1,6 @@
 use borrow.Author.Needs.{needs}
 use borrow.Author.Tests.{ne-eqb}
-use Rattle.fields.specs.Field.{after}
+use Rattle.fields.specs.Field.{whenRead}
 use Rattle.requests.specs.Part.{lastPartAt}
 use Rattle.requests.proofs.last_part.Statement.{statement}
 use Rattle.requests.proofs.last_part.Tie as tie
@@ -24,23 +24,23 @@ enum-known-g-2 : tie.Need-enum-known-g-2
 enum-known-g-2 c = search needs
 
 returns : tie.Need-returns
-unfolding lastPartAt after
+unfolding lastPartAt whenRead
 returns c = rw (← c .before .before .before .before .before .first .ensures, c .before .before .before .g .given .1, c .before .match2 .keys1, ← c .make-part .ensures)
 
 returns-2 : tie.Need-returns-2
-unfolding lastPartAt after
+unfolding lastPartAt whenRead
 returns-2 c = rw (← c .before .before .before .before .before .first .ensures, c .before .before .before .g .given .1, c .before .match2 .keys2, ← c .check-part .ensures)
 
 returns-3 : tie.Need-returns-3
-unfolding lastPartAt after
+unfolding lastPartAt whenRead
 returns-3 c = rw (← c .before .before .before .before .before .first .ensures, c .before .before .before .g .given .1, c .before .match2 .keys3, ← c .play-part .ensures)
 
 returns-4 : tie.Need-returns-4
-unfolding lastPartAt after
+unfolding lastPartAt whenRead
 returns-4 c = rw (← c .before .before .before .before .first .ensures, c .before .before .g .given .1, ne-eqb _ _ (c .match2 .rest .0 .0 .1), ne-eqb _ _ (c .match2 .rest .0 .1), ne-eqb _ _ (c .match2 .rest .1))
 
 returns-5 : tie.Need-returns-5
-unfolding lastPartAt after
+unfolding lastPartAt whenRead
 returns-5 c = rw (← c .before .before .before .first .ensures, c .before .g2 .given .1)
 
 pub last-part-spec : {M : Type 1} → statement M

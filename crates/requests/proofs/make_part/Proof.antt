@@ -1,6 +1,6 @@
 use borrow.Author.Needs.{needs}
 use borrow.Author.Tests.{le-ltb, lt-ltb}
-use Rattle.fields.specs.Field.{after}
+use Rattle.fields.specs.Field.{whenRead}
 use Rattle.requests.specs.Part.{makeAt}
 use Rattle.requests.proofs.make_part.Statement.{statement}
 use Rattle.requests.proofs.make_part.Tie as tie
@@ -12,18 +12,18 @@ enum-known-g : tie.Need-enum-known-g
 enum-known-g c = search needs
 
 returns : tie.Need-returns
-unfolding makeAt after
+unfolding makeAt whenRead
 returns c = rw (← c .before .before .before .before .participant .ensures, c .before .before .g .given .1, lt-ltb _ _ (c .if1 .taken))
 
 enum-known-g-2 : tie.Need-enum-known-g-2
 enum-known-g-2 c = search needs
 
 returns-2 : tie.Need-returns-2
-unfolding makeAt after
+unfolding makeAt whenRead
 returns-2 c = rw (← c .before .before .before .before .participant .ensures, c .before .before .g .given .1, le-ltb _ _ (c .if1 .left))
 
 returns-3 : tie.Need-returns-3
-unfolding makeAt after
+unfolding makeAt whenRead
 returns-3 c = rw (← c .before .before .before .participant .ensures, c .before .g2 .given .1)
 
 pub make-part-spec : {M : Type 1} → statement M

@@ -1,5 +1,5 @@
 use borrow.Author.Needs.{needs}
-use Rattle.fields.specs.Field.{after}
+use Rattle.fields.specs.Field.{whenRead}
 use Rattle.requests.specs.Part.{participantAt}
 use Rattle.requests.proofs.participant.Statement.{statement}
 use Rattle.requests.proofs.participant.Tie as tie
@@ -14,7 +14,7 @@ enum-told : tie.Need-enum-told
 enum-told c = search needs
 
 returns : tie.Need-returns
-unfolding participantAt after
+unfolding participantAt whenRead
 returns c = rw (← c .before .before .number-below .ensures, c .enum-told .given .1)
 
 line-end-requires : tie.Need-line-end-requires
@@ -27,11 +27,11 @@ enum-told-2 : tie.Need-enum-told-2
 enum-told-2 c = search needs
 
 returns-2 : tie.Need-returns-2
-unfolding participantAt after
+unfolding participantAt whenRead
 returns-2 c = rw (← c .before .before .before .before .before .before .number-below .ensures, c .before .before .before .before .g .given .1, ← c .before .before .line-end .ensures, c .enum-told2 .given .1)
 
 returns-3 : tie.Need-returns-3
-unfolding participantAt after
+unfolding participantAt whenRead
 returns-3 c = rw (← c .before .before .before .before .before .before .before .number-below .ensures, c .before .before .before .before .before .g .given .1, ← c .before .before .before .line-end .ensures, c .before .h .given .1)
 
 pub participant-spec : {M : Type 1} → statement M

@@ -1,5 +1,5 @@
 use borrow.Author.Needs.{needs}
-use Rattle.fields.specs.Field.{after}
+use Rattle.fields.specs.Field.{whenRead}
 use Rattle.requests.specs.Part.{playAt}
 use Rattle.requests.proofs.play_part.Statement.{statement}
 use Rattle.requests.proofs.play_part.Tie as tie
@@ -23,15 +23,15 @@ enum-known-g-2 : tie.Need-enum-known-g-2
 enum-known-g-2 c = search needs
 
 returns : tie.Need-returns
-unfolding playAt after
+unfolding playAt whenRead
 returns c = rw (← c .before .before .before .before .before .before .before .past-values .ensures, c .before .before .before .before .before .g .given .1, ← c .before .before .before .line-end .ensures, c .before .h .given .1)
 
 returns-2 : tie.Need-returns-2
-unfolding playAt after
+unfolding playAt whenRead
 returns-2 c = rw (← c .before .before .before .before .before .before .before .past-values .ensures, c .before .before .before .before .before .g .given .1, ← c .before .before .before .line-end .ensures, c .before .h2 .given .1)
 
 returns-3 : tie.Need-returns-3
-unfolding playAt after
+unfolding playAt whenRead
 returns-3 c = rw (← c .before .before .before .past-values .ensures, c .before .g2 .given .1)
 
 pub play-part-spec : {M : Type 1} → statement M

@@ -1,6 +1,6 @@
 use borrow.Author.Needs.{needs}
 use borrow.Author.Tests.{eq-eqb, ne-eqb}
-use Rattle.fields.specs.Field.{after}
+use Rattle.fields.specs.Field.{whenRead}
 use Rattle.requests.specs.Part.{valueAt}
 use Rattle.requests.proofs.value_at.Statement.{statement}
 use Rattle.requests.proofs.value_at.Tie as tie
@@ -12,7 +12,7 @@ enum-known-g : tie.Need-enum-known-g
 enum-known-g c = search needs
 
 returns : tie.Need-returns
-unfolding valueAt after
+unfolding valueAt whenRead
 returns c = rw (← c .before .before .before .before .word .ensures, c .before .before .g .given .1, eq-eqb _ _ (c .if1 .taken))
 
 number-requires : tie.Need-number-requires
@@ -28,15 +28,15 @@ enum-known-g-2 : tie.Need-enum-known-g-2
 enum-known-g-2 c = search needs
 
 returns-2 : tie.Need-returns-2
-unfolding valueAt after
+unfolding valueAt whenRead
 returns-2 c = rw (← c .before .before .before .before .before .before .before .before .word .ensures, c .before .before .before .before .before .before .g .given .1, ne-eqb _ _ (c .before .before .before .before .if1 .left), ← c .before .before .before .number .ensures, c .before .h .given .1)
 
 returns-3 : tie.Need-returns-3
-unfolding valueAt after
+unfolding valueAt whenRead
 returns-3 c = rw (← c .before .before .before .before .before .before .before .before .word .ensures, c .before .before .before .before .before .before .g .given .1, ne-eqb _ _ (c .before .before .before .before .if1 .left), ← c .before .before .before .number .ensures, c .before .h2 .given .1)
 
 returns-4 : tie.Need-returns-4
-unfolding valueAt after
+unfolding valueAt whenRead
 returns-4 c = rw (← c .before .before .before .word .ensures, c .before .g2 .given .1)
 
 pub value-at-spec : {M : Type 1} → statement M

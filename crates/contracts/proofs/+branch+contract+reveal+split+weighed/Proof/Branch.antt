@@ -1,6 +1,6 @@
 -- What is to be shown of `branch`, place by place. Assumes nothing.
 use Rattle.contracts.proofs.Laws.{ready, few-took, few-leaf, branches-full, branches-free, action-w, action-s, action-r, action-g, action-other}
-use Rattle.contracts.specs.Contract.{branchAt}
+use Rattle.contracts.specs.Contract.{readBranch}
 use Rattle.steps.proofs.Laws.{passed, refused, yes′, no′, stop, also, took-number, took-letters}
 use borrow.Author.Tests.{le-leb, lt-leb}
 use native.Mathlib.Omega.{arith}
@@ -20,19 +20,19 @@ pub enum-told : (t : ℕ) → branch-lts.Need-enum-told (branch-callees t) (bran
 enum-told t c = search needs
 
 pub returns : (t : ℕ) → branch-lts.Need-returns (branch-callees t) (branch-at t) branch.Post
-unfolding branchAt
+unfolding readBranch
 returns t c =
     let c2 = c .before .before in
     refused _ _ _ _ (c2 .num .ensures) (c .enum-told .given .1)
 
 pub returns-2 : (t : ℕ) → branch-lts.Need-returns-2 (branch-callees t) (branch-at t) branch.Post
-unfolding branchAt
+unfolding readBranch
 returns-2 t c =
     let c3 = c .before .before .before in let c5 = c3 .before .before in
     passed _ _ _ _ (c5 .num .ensures) (c3 .g .given .1) (yes′ _ (le-leb _ _ (c .if1 .taken)) stop)
 
 pub returns-3 : (t : ℕ) → branch-lts.Need-returns-3 (branch-callees t) (branch-at t) branch.Post
-unfolding branchAt
+unfolding readBranch
 returns-3 t c =
     let c2 = c .before .before in let c5 = c2 .before .before .before in let c7 = c5 .before .before in
     passed _ _ _ _ (c7 .num .ensures) (c5 .g .given .1) (no′ _ (lt-leb _ _ (c2 .if1 .left)) (yes′ _ (branches-full _ _ _ (c .if2 .taken)) stop))
@@ -47,7 +47,7 @@ pub enum-told-2 : (t : ℕ) → branch-lts.Need-enum-told-2 (branch-callees t) (
 enum-told-2 t c = search needs
 
 pub returns-4 : (t : ℕ) → branch-lts.Need-returns-4 (branch-callees t) (branch-at t) branch.Post
-unfolding branchAt
+unfolding readBranch
 returns-4 t c =
     let c2 = c .before .before in let c3 = c2 .before in let c5 = c3 .before .before in let c8 = c5 .before .before .before in
     let c10 = c8 .before .before in
@@ -63,7 +63,7 @@ pub enum-told-3 : (t : ℕ) → branch-lts.Need-enum-told-3 (branch-callees t) (
 enum-told-3 t c = search needs
 
 pub returns-5 : (t : ℕ) → branch-lts.Need-returns-5 (branch-callees t) (branch-at t) branch.Post
-unfolding branchAt
+unfolding readBranch
 returns-5 t c =
     let c2 = c .before .before in let c4 = c2 .before .before in let c6 = c4 .before .before in let c7 = c6 .before in let c9 = c7 .before .before in
     let c12 = c9 .before .before .before in let c14 = c12 .before .before in
@@ -115,7 +115,7 @@ same-length t c =
     c2 .leaf .kept .1 .1 .1 .1 .1 .0
 
 pub returns-6 : (t : ℕ) → branch-lts.Need-returns-6 (branch-callees t) (branch-at t) branch.Post
-unfolding branchAt
+unfolding readBranch
 returns-6 t c =
     let c2 = c .before .before in let c4 = c2 .before .before in let c6 = c4 .before .before in let c8 = c6 .before .before in
     let c10 = c8 .before .before in let c12 = c10 .before .before in let c13 = c12 .before in let c15 = c13 .before .before in
@@ -131,7 +131,7 @@ same-length-2 t c =
     c2 .split .kept .1 .1 .1 .1 .1 .0
 
 pub returns-7 : (t : ℕ) → branch-lts.Need-returns-7 (branch-callees t) (branch-at t) branch.Post
-unfolding branchAt
+unfolding readBranch
 returns-7 t c =
     let c2 = c .before .before in let c4 = c2 .before .before in let c6 = c4 .before .before in let c8 = c6 .before .before in
     let c10 = c8 .before .before in let c12 = c10 .before .before in let c13 = c12 .before in let c15 = c13 .before .before in
@@ -144,7 +144,7 @@ same-length-3 t c =
     c2 .reveal .kept .1 .1 .1 .1 .1 .0
 
 pub returns-8 : (t : ℕ) → branch-lts.Need-returns-8 (branch-callees t) (branch-at t) branch.Post
-unfolding branchAt
+unfolding readBranch
 returns-8 t c =
     let c2 = c .before .before in let c4 = c2 .before .before in let c6 = c4 .before .before in let c8 = c6 .before .before in
     let c10 = c8 .before .before in let c12 = c10 .before .before in let c13 = c12 .before in let c15 = c13 .before .before in
@@ -157,7 +157,7 @@ same-length-4 t c =
     c2 .leaf2 .kept .1 .1 .1 .1 .1 .0
 
 pub returns-9 : (t : ℕ) → branch-lts.Need-returns-9 (branch-callees t) (branch-at t) branch.Post
-unfolding branchAt
+unfolding readBranch
 returns-9 t c =
     let c2 = c .before .before in let c4 = c2 .before .before in let c6 = c4 .before .before in let c8 = c6 .before .before in
     let c10 = c8 .before .before in let c12 = c10 .before .before in let c13 = c12 .before in let c15 = c13 .before .before in
@@ -168,7 +168,7 @@ returns-9 t c =
     let k = few-took (few-took (few-took (c23 .pre .1 .1) z) y) x in passed _ _ _ _ (c20 .num .ensures) (c18 .g .given .1) (no′ _ (lt-leb _ _ (c15 .if1 .left)) (no′ _ (branches-free _ _ _ (c13 .if2 .left)) (passed _ _ _ _ (c12 .num2 .ensures) (c10 .h .given .1) (passed _ _ _ _ (c8 .letters .ensures) (c6 .i .given .1) (action-g _ _ _ _ _ _ _ (c4 .match4 .keys4) _ _ (also (λ e q. few-leaf k (omega (arith, c13 .if2 .left, x .branches, y .branches, z .branches)) q) (c2 .leaf2 .ensures)))))))
 
 pub returns-10 : (t : ℕ) → branch-lts.Need-returns-10 (branch-callees t) (branch-at t) branch.Post
-unfolding branchAt
+unfolding readBranch
 returns-10 t c =
     let c2 = c .before .before in let c4 = c2 .before .before in let c6 = c4 .before .before in let c8 = c6 .before .before in let c9 = c8 .before in
     let c11 = c9 .before .before in let c14 = c11 .before .before .before in let c16 = c14 .before .before in

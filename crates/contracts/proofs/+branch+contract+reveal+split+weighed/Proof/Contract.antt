@@ -1,7 +1,7 @@
 -- What is to be shown of `contract`, place by place. Assumes nothing.
 use Rattle.contracts.proofs.Laws.{ready, few-took, few-node, nodes-full, nodes-free, inside-none, inside-more, begin}
 use Rattle.contracts.specs.Counts.{Few}
-use Rattle.contracts.specs.Contract.{branchAt, contractAt, contractWith}
+use Rattle.contracts.specs.Contract.{readBranch, readContract, contractWith}
 use Rattle.steps.proofs.Laws.{Leads, passed, refused, yes′, no′, stop, called, call-refused, done, by, promised, took-number, took-letters, times-more, times-none}
 use Rattle.steps.specs.Steps.{times}
 use Rattle.tables.specs.State.{stateOf}
@@ -16,7 +16,7 @@ use Rattle.contracts.proofs.+branch+contract+reveal+split+weighed.Lts-c
 use Rattle.contracts.proofs.+branch+contract+reveal+split+weighed.Proof.Cycle.{contract-at, contract-callees}
 
 abbrev pub Inv-loop : contract-lts.InvT-loop
-Inv-loop s depth parent weight lim t₀ w n id cur₀ left₀ t cur left = Leads (Few s lim) (times left (branchAt s lim (contractAt s lim (depth - 1)) id) (stateOf cur t)) (times left₀ (branchAt s lim (contractAt s lim (depth - 1)) id) (stateOf cur₀ t₀)) × Few s lim cur × (length t ≡ length t₀)
+Inv-loop s depth parent weight lim t₀ w n id cur₀ left₀ t cur left = Leads (Few s lim) (times left (readBranch s lim (readContract s lim (depth - 1)) id) (stateOf cur t)) (times left₀ (readBranch s lim (readContract s lim (depth - 1)) id) (stateOf cur₀ t₀)) × Few s lim cur × (length t ≡ length t₀)
 
 abbrev pub μ-loop : contract-lts.MeasureT-loop
 μ-loop s depth parent weight lim t₀ w n id cur₀ left₀ t cur left = left
@@ -31,25 +31,25 @@ pub enum-told : (t : ℕ) → contract-lts.Need-enum-told (contract-callees t) (
 enum-told t c = search needs
 
 pub returns : (t : ℕ) → contract-lts.Need-returns (contract-callees t) (contract-at t) contract.Post Inv-loop μ-loop
-unfolding contractAt contractWith
+unfolding readContract contractWith
 returns t c =
     let c2 = c .before .before in
     refused _ _ _ _ (c2 .letters .ensures) (c .enum-told .given .1)
 
 pub returns-2 : (t : ℕ) → contract-lts.Need-returns-2 (contract-callees t) (contract-at t) contract.Post Inv-loop μ-loop
-unfolding contractAt contractWith
+unfolding readContract contractWith
 returns-2 t c =
     let c2 = c .before .before in let c4 = c2 .before .before in
     passed _ _ _ _ (c4 .letters .ensures) (c2 .g .given .1) (no′ _ (ne-eqb _ _ (c .if1 .taken)) stop)
 
 pub returns-3 : (t : ℕ) → contract-lts.Need-returns-3 (contract-callees t) (contract-at t) contract.Post Inv-loop μ-loop
-unfolding contractAt contractWith
+unfolding readContract contractWith
 returns-3 t c =
     let c3 = c .before .before .before in let c5 = c3 .before .before in
     passed _ _ _ _ (c5 .letters .ensures) (c3 .g .given .1) (yes′ _ (eq-eqb _ _ (c .before .if1 .left)) (inside-none _ _ _ _ _ _ _ (c .if2 .taken) _ _ stop))
 
 pub returns-4 : (t : ℕ) → contract-lts.Need-returns-4 (contract-callees t) (contract-at t) contract.Post Inv-loop μ-loop
-unfolding contractAt contractWith
+unfolding readContract contractWith
 returns-4 t c =
     let c2 = c .before .before in let c3 = c2 .before in let c5 = c3 .before .before in let c7 = c5 .before .before in
     passed _ _ _ _ (c7 .letters .ensures) (c5 .g .given .1) (yes′ _ (eq-eqb _ _ (c3 .if1 .left)) (inside-more _ _ _ _ _ _ _ (c2 .if2 .left) _ _ (yes′ _ (nodes-full _ _ _ (c .if3 .taken)) stop)))
@@ -64,7 +64,7 @@ pub enum-told-2 : (t : ℕ) → contract-lts.Need-enum-told-2 (contract-callees 
 enum-told-2 t c = search needs
 
 pub returns-5 : (t : ℕ) → contract-lts.Need-returns-5 (contract-callees t) (contract-at t) contract.Post Inv-loop μ-loop
-unfolding contractAt contractWith
+unfolding readContract contractWith
 returns-5 t c =
     let c2 = c .before .before in let c3 = c2 .before in let c5 = c3 .before .before in let c6 = c5 .before in let c8 = c6 .before .before in
     let c10 = c8 .before .before in
@@ -105,7 +105,7 @@ same-length t c =
     c4 .branch .kept .1 .1 .1 .1 .1 .0 ∙ c7 .loop .inv .2 ∙ c10 .put-node .kept .0
 
 pub returns-6 : (t : ℕ) → contract-lts.Need-returns-6 (contract-callees t) (contract-at t) contract.Post Inv-loop μ-loop
-unfolding contractAt contractWith
+unfolding readContract contractWith
 returns-6 t c =
     let c4 = c .before .before .before .before in let c6 = c4 .before .before in let c7 = c6 .before in let c10 = c7 .before .before .before in
     let c13 = c10 .before .before .before in let c15 = c13 .before .before in let c16 = c15 .before in let c18 = c16 .before .before in
@@ -131,7 +131,7 @@ same-length-2 t c =
     c .before .loop .inv .2 ∙ c4 .put-node .kept .0
 
 pub returns-7 : (t : ℕ) → contract-lts.Need-returns-7 (contract-callees t) (contract-at t) contract.Post Inv-loop μ-loop
-unfolding contractAt contractWith
+unfolding readContract contractWith
 returns-7 t c =
     let c4 = c .before .before .before .before in let c7 = c4 .before .before .before in let c9 = c7 .before .before in let c10 = c9 .before in
     let c12 = c10 .before .before in let c13 = c12 .before in let c15 = c13 .before .before in let c17 = c15 .before .before in

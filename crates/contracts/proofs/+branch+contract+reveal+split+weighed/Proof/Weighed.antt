@@ -1,7 +1,7 @@
 -- What is to be shown of `weighed`, place by place. Assumes nothing.
 use Rattle.contracts.proofs.Laws.{few-took, weighed-more, weighed-none}
 use Rattle.contracts.specs.Counts.{Few}
-use Rattle.contracts.specs.Contract.{weighedAt, contractAt}
+use Rattle.contracts.specs.Contract.{weighedAt, readContract}
 use Rattle.steps.proofs.Laws.{Leads, passed, refused, yes′, no′, stop, called, call-refused, done, promised, took-number, most}
 use Rattle.tables.specs.State.{stateOf}
 use lib.ListN.{length}
@@ -15,7 +15,7 @@ use Rattle.contracts.proofs.+branch+contract+reveal+split+weighed.Lts-w
 use Rattle.contracts.proofs.+branch+contract+reveal+split+weighed.Proof.Cycle.{weighed-at, weighed-callees}
 
 abbrev pub Inv-loop : weighed-lts.InvT-loop
-Inv-loop s parent n depth lim t₀ cur₀ left₀ sum₀ t cur left sum = Leads (Few s lim) (weighedAt s (contractAt s lim depth) parent sum left (stateOf cur t)) (weighedAt s (contractAt s lim depth) parent sum₀ left₀ (stateOf cur₀ t₀)) × Few s lim cur × (length t ≡ length t₀) × (sum + 1000 * left ≤ 8000)
+Inv-loop s parent n depth lim t₀ cur₀ left₀ sum₀ t cur left sum = Leads (Few s lim) (weighedAt s (readContract s lim depth) parent sum left (stateOf cur t)) (weighedAt s (readContract s lim depth) parent sum₀ left₀ (stateOf cur₀ t₀)) × Few s lim cur × (length t ≡ length t₀) × (sum + 1000 * left ≤ 8000)
 
 abbrev pub μ-loop : weighed-lts.MeasureT-loop
 μ-loop s parent n depth lim t₀ cur₀ left₀ sum₀ t cur left sum = left

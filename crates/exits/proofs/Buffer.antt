@@ -4,8 +4,7 @@ use Prim.Native.Nat.{ℕ, zero, suc, _+_, _-_, _*_, _≤_, _<_}
 use native.Mathlib.Omega.{arith}
 use mathlib.Core.Bool.{Bool, true, false, cond}
 use mathlib.Core.List.{List, [], _∷_, _++_, map, append-assoc, append-nil, List·Memᴰ}
-use lib.ListN.{length, getD, set, replicate, drop, length-set, length-append, length-replicate}
-use lib.Seq.{drop-length}
+use lib.ListN.{length, getD, set, replicate, length-set, length-append, length-replicate}
 use lib.Dec.{eqb, ltb}
 use borrow.Author.Tests.{ne-eqb, lt-ltb, ltb-true, eqb-true, eqb-false}
 use Rattle.bitml.specs.Lists.{_&_, sum, keep, below, upFrom, All}
@@ -57,11 +56,9 @@ module _ (M R : List ℕ) (n : ℕ) where
 
 -- ---- the buffer
 
-pub clear-end : (d : List ℕ) (i : ℕ) → i ≡ length d → replicate i 0 ++ drop i d ≡ filled (length d) []
+pub filled-none : (L : ℕ) → replicate L 0 ≡ filled L []
 unfolding filled flat
-clear-end d i e =
-    ap (λ k. replicate k 0 ++ drop k d) e ∙ ap (λ xs. replicate (length d) 0 ++ xs) (drop-length d) ∙ append-nil (replicate (length d) 0)
-    ∙ ap (λ k. replicate k 0) (let z : length d ≡ length d - 3 * 0 = omega arith in z)
+filled-none L = ap (λ k. replicate k 0) (let z : L ≡ L - 3 * 0 = omega arith in z)
 
 put-three : (F ys : List ℕ) (a b c : ℕ) → set (set (set (F ++ 0 ∷ 0 ∷ 0 ∷ ys) (length F) a) (suc (length F)) b) (suc (suc (length F))) c ≡ F ++ a ∷ b ∷ c ∷ ys
 put-three [] ys a b c = refl
@@ -248,8 +245,7 @@ unfolding bufferOf
 buffer-liquid S rs L xs e f = rw e f
 
 pub cleared-long : (L : ℕ) (xs : List ℕ) → xs ≡ filled L [] → length xs ≡ L
-unfolding filled flat
-cleared-long L xs e = ap (λ x. length x) e ∙ length-replicate {A = ℕ} (L - 3 * 0) 0 ∙ (let z : L - 3 * 0 ≡ L = omega arith in z)
+cleared-long L xs e = ap (λ x. length x) (e ∙ sym (filled-none L)) ∙ length-replicate {A = ℕ} L 0
 
 pub cleared-is : (L : ℕ) (xs : List ℕ) → xs ≡ filled L [] → xs ≡ filled (length xs) []
 cleared-is L xs e = e ∙ ap (λ k. filled k []) (sym (cleared-long L xs e))

@@ -5,7 +5,7 @@ use native.Mathlib.Omega.{arith}
 use native.Mathlib.Numerals.{add-one}
 use mathlib.Core.List.{List, [], _∷_, _++_, append-nil, append-assoc}
 use lib.ListN.{length, take, drop, set, replicate, length-set, length-append, length-take, take-append-drop}
-use lib.Seq.{take-suc-set, drop-set-lt, drop-drop, drop-length}
+use lib.Seq.{take-suc-set, drop-set-lt, drop-drop}
 use Rattle.texts.specs.Wrote.{Wrote}
 
 pub wrote-none : (u : List ℕ) (a : ℕ) → Wrote u a [] u a
@@ -48,6 +48,3 @@ pub wrote-all : {xs u : List ℕ} {r : ℕ} (n : ℕ) → Wrote (replicate n 0) 
 wrote-all {xs} {u} {r} n w =
     sym (take-append-drop r u)
     ∙ ap₂ (λ x y. x ++ y) (w .front) (w .rest ∙ drop-zeros r n ∙ ap (λ m. replicate m 0) (let e : n - r ≡ n - length xs = omega (arith, w .end) in e))
-
-pub clear-end : (d : List ℕ) (i : ℕ) → i ≡ length d → replicate i 0 ++ drop i d ≡ replicate (length d) 0
-clear-end d i e = ap (λ k. replicate k 0 ++ drop k d) e ∙ ap (λ xs. replicate (length d) 0 ++ xs) (drop-length d) ∙ append-nil (replicate (length d) 0)

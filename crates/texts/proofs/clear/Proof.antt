@@ -2,10 +2,10 @@ use borrow.Author.Needs.{needs}
 use Prim.Native.Nat.{_≤_, _-_}
 use native.Mathlib.Omega.{arith}
 use mathlib.Core.Path.{_≡_, refl, ap, _∙_}
-use mathlib.Core.List.{_++_}
+use mathlib.Core.List.{_++_, append-nil}
 use lib.ListN.{length, replicate, drop, length-set, set}
+use lib.Seq.{drop-length}
 use borrow.Author.Fill.{fill-none, fill-more}
-use Rattle.texts.proofs.Writing.{clear-end}
 use Rattle.texts.proofs.clear.Statement.{statement}
 use Rattle.texts.proofs.clear.Tie as tie
 
@@ -35,8 +35,8 @@ same-length : tie.Need-same-length Inv-loop μ-loop
 same-length c = search needs
 
 returns : tie.Need-returns Inv-loop μ-loop
-returns c = let l = c .before .loop in let d = c .before .before .args .out .now in
-    l .inv .2 ∙ clear-end d (l .i) (omega arith)
+returns c = let l = c .before .loop in let d = c .before .before .args .out .now in let e : l .i ≡ length d = omega arith in
+    l .inv .2 ∙ rw (e, drop-length d) (append-nil (replicate (length d) 0))
 
 pub clear-spec : {M : Type 1} → statement M
 clear-spec =

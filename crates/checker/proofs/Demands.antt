@@ -30,7 +30,7 @@ use Rattle.checker.proofs.Entry.{early-none}
 
 -- ---- the refusals of rows are 10 to 13
 
-unfoldable Numbered : ℕ → Type 0
+unfoldable pub Numbered : ℕ → Type 0
 Numbered n = (n ≡ 0) ⊎ ((10 ≤ n) × (n ≤ 13))
 
 none-numbered : Numbered 0
@@ -69,7 +69,7 @@ module _ (S : Sheet) (p : ℕ) (R : List Row) where
   faulty-numbered i [] = none-numbered
   faulty-numbered i (r ∷ rs) = else-numbered (record { number = rowFault S p R r; place = i }) (faulty S p R (suc i) rs) (row-numbered r) (faulty-numbered (suc i) rs)
 
-  check-numbered : Numbered (rows.check S p R .number)
+  pub check-numbered : Numbered (rows.check S p R .number)
   unfolding rows.check
   check-numbered =
       let root : Fault = record { number = ask (has R (defAt S 0 .root)) 11 0; place = 0 } in
@@ -116,7 +116,7 @@ unfolding answerTo judged
 answer-read s places text room K E l e =
     ap (λ n. cond (eqb n 0) (judged s (readRequest s)) (refused n 0 0)) (sym (early-none (length s) places text (room .bytes) (room .enough-places) (room .enough-text))) ∙ ap (judged s) e
 
-formed : (s : List ℕ) (K : ℕ) (E : Entries) (l : LastPart) → readRequest s ≡ request K E l → WellFormed (sheetOf K E)
+pub formed : (s : List ℕ) (K : ℕ) (E : Entries) (l : LastPart) → readRequest s ≡ request K E l → WellFormed (sheetOf K E)
 unfolding PromisedWhole
 formed s K E l e = well-formed K E (promised-whole s K E l e .0)
 

@@ -1,4 +1,5 @@
 pub mod Demands
 pub mod Entry
 pub mod Printing
+pub mod Refusals
 pub mod Stars

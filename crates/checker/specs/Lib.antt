@@ -1,3 +1,4 @@
 pub mod Demands
 pub mod Entry
+pub mod Refusals
 pub mod Stars

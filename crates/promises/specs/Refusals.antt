@@ -11,7 +11,7 @@ use Rattle.reader.specs.Request.{refused, readRequest}
 
 -- ---- while a request is read
 
--- "none of the numbers 2 to 9"
+-- "The reader goes field by field over the whole request": as in a sheet, of the numbers "2 to 9" one applies
 unfoldable pub ReadNumber : ℕ → Type 0
 ReadNumber n = (2 ≤ n) × (n ≤ 9)
 
@@ -27,7 +27,7 @@ OfReadings = (s : List ℕ) (n l f : ℕ) → readRequest s ≡ refused n l f �
 
 -- ---- by the ledger: an event that is taken gets 0
 
--- the numbers of the table, 14 to 19, by what each event's line asks and by the limits of the program's ledger
+-- "14 .. contract unknown or dead", up to "19 .. a limit of the program's ledger": those that can refuse each kind of event
 unfoldable pub refusals : Event → List ℕ
 refusals (wait d) = 19 ∷ []
 refusals (sign p c b) = 14 ∷ 16 ∷ []
@@ -43,12 +43,12 @@ InRange (tell i j) = Unit {0}
 InRange (fire c b) = Unit {0}
 InRange (renew c b vs) = Unit {0}
 
--- taken, or refused by 14 to 19
+-- "An event is taken when all that its line asks holds; otherwise it is refused": by 14 to 19
 unfoldable pub EventNumber : ℕ → Type 0
 EventNumber n = (n ≡ 0) ⊎ ((14 ≤ n) × (n ≤ 19))
 
 pub record OfEvents : Type 0 where
-  -- "Events: the lowest that applies": of any event and any ledger
+  -- "Events: the lowest that applies": of any event, whatever the ledger
   pub kinds : (S : Sheet) (l : Ledger) (e : Event) → InRange e → List·Memᴰ (limitedRefusal S l e) (0 ∷ refusals e)
   pub numbers : (S : Sheet) (l : Ledger) (e : Event) → InRange e → EventNumber (limitedRefusal S l e)
   -- "play goes on": of all events of a list

@@ -1,0 +1,157 @@
+-- Every refused request has one reason, and its number is from 1 to 13; every event of a play gets 0 or 14 to 19. Assumes nothing.
+use mathlib.Core.Path.{_≡_, refl, sym, ap, _∙_, subst}
+use mathlib.Core.Logic.{_⊎_, inl, inr, ⊎-elim, by-cases}
+use Prim.Native.Nat.{ℕ, _+_, _≤_, _<_}
+use native.Mathlib.Omega.{arith}
+use native.Mathlib.Decide.{decLe}
+use mathlib.Core.Bool.{false, cond}
+use mathlib.Core.Option.{Option}
+use mathlib.Core.List.{List, [], _∷_}
+use lib.ListN.{length}
+use lib.Dec.{leb, eqb}
+use borrow.Author.Tests.{le-leb, lt-leb, eqb-false}
+use Rattle.bitml.specs.Lists.{_&_}
+use Rattle.bitml.specs.Sheet.{Sheet}
+use Rattle.bitml.specs.Rows as rows
+use Rattle.bitml.specs.Rows.{Row}
+use Rattle.bitml.specs.Ledger.{Event}
+use Rattle.bitml.specs.Answers.{liquidBy}
+use Rattle.bitml.proofs.Lists.{and-no, and-false, and-i}
+use Rattle.fields.proofs.Ranges.{cond-cases}
+use Rattle.tables.specs.Entries.{Entries}
+use Rattle.tables.specs.SheetOf.{sheetOf, defEntryAt}
+use Rattle.reader.specs.Request.{Reading, request, make, check, play, readRequest}
+use Rattle.reader.specs.Request.{refused as unread}
+use Rattle.promises.specs.Refusals.{ReadNumber, OfReadings}
+use Rattle.promises.proofs.Refusals.{of-readings}
+use Rattle.promises.proofs.Events.{of-events}
+use Rattle.replies.specs.Answer.{Answer, refused, printed, leastText}
+use Rattle.verdicts.specs.Judged.{madeFor, faultFor, checkedFor}
+use Rattle.plays.specs.Values.{valuesOf}
+use Rattle.plays.specs.Events.{eventsOf}
+use Rattle.plays.specs.Played.{playedFor}
+use Rattle.plays.proofs.Ranges.{events-range}
+use Rattle.checker.specs.Demands.{Room}
+use Rattle.checker.specs.Entry.{answerFor, answerTo}
+use Rattle.checker.specs.Entry.{judged as judgedFrom}
+use Rattle.checker.specs.Refusals.{Why, tooLong, shortBuffers, notRead, rowsRefused, Refused, long, short, bad, judged, OfRefusals}
+use Rattle.checker.proofs.Entry.{early-long, early-rows, early-text, early-none}
+use Rattle.checker.proofs.Demands.{Numbered, check-numbered, formed}
+
+-- ---- what comes before reading
+
+module _ (s : List ℕ) (places text : ℕ) where
+  abbrev early-answer : ℕ → Answer
+  early-answer n = cond (eqb n 0) (judgedFrom s (readRequest s)) (refused n 0 0)
+
+  answer-long : 65536 < length s → answerTo s places text ≡ refused 1 0 0
+  unfolding answerTo
+  answer-long h = ap early-answer (sym (early-long (length s) places text h))
+
+  answer-short : length s ≤ 65536 → (places < 512) ⊎ (text < leastText) → answerTo s places text ≡ refused 7 0 0
+  unfolding answerTo
+  answer-short h i =
+      by-cases (decLe 512 places)
+      (λ k. ap early-answer (sym (early-text (length s) places text h k (⊎-elim (λ j. absurd (omega (arith, j, k))) (λ j. j) i))))
+      (λ k. ap early-answer (sym (early-rows (length s) places text h (omega arith))))
+
+  answer-room : Room s places text → answerTo s places text ≡ judgedFrom s (readRequest s)
+  unfolding answerTo
+  answer-room r = ap early-answer (sym (early-none (length s) places text (r .bytes) (r .enough-places) (r .enough-text)))
+
+  answer-unread : (n l f : ℕ) → Room s places text → readRequest s ≡ unread n l f → answerTo s places text ≡ refused n l f
+  unfolding judgedFrom
+  answer-unread n l f r e = answer-room r ∙ ap (judgedFrom s) e
+
+-- ---- one reason
+
+-- the reason, where there is one
+unfoldable readingWhy : Reading → Why
+readingWhy (request K E l) = rowsRefused
+readingWhy (unread n l f) = notRead
+
+unfoldable whyOf : List ℕ → ℕ → ℕ → Why
+whyOf s places text = cond (leb (length s) 65536) (cond (leb 512 places & leb leastText text) (readingWhy (readRequest s)) shortBuffers) tooLong
+
+short-test : (places text : ℕ) → (places < 512) ⊎ (text < leastText) → (leb 512 places & leb leastText text) ≡ false
+short-test places text i = ⊎-elim (λ h. and-false _ _ (lt-leb _ _ h)) (λ h. and-no _ _ (lt-leb _ _ h)) i
+
+module _ {s : List ℕ} {places text : ℕ} where
+  room-why : Room s places text → whyOf s places text ≡ readingWhy (readRequest s)
+  unfolding whyOf
+  room-why r = rw (le-leb _ _ (r .bytes), and-i _ _ (le-leb _ _ (r .enough-places)) (le-leb _ _ (r .enough-text)))
+
+  refused-why : {w : Why} {n l f : ℕ} → Refused s places text w n l f → whyOf s places text ≡ w
+  unfolding whyOf readingWhy
+  refused-why (long h) = rw (lt-leb _ _ h)
+  refused-why (short h i) = rw (le-leb _ _ h, short-test places text i)
+  refused-why (bad r e h) = room-why r ∙ ap readingWhy e
+  refused-why (judged r e h i) = room-why r ∙ ap readingWhy e
+
+  refused-number : {w : Why} {n l f : ℕ} → Refused s places text w n l f → (1 ≤ n) × (n ≤ 13)
+  unfolding ReadNumber
+  refused-number (long h) = (omega arith, omega arith)
+  refused-number (short h i) = (omega arith, omega arith)
+  refused-number (bad r e h) = (omega (arith, h .number .0), omega (arith, h .number .1))
+  refused-number (judged r e h i) = (omega (arith, h .0), omega (arith, h .1))
+
+-- ---- what each last part is answered
+
+module _ (s : List ℕ) (places text : ℕ) where
+  unfoldable Reasoned : Answer → Type 0
+  Reasoned (refused n l f) = (w : Why) × Refused s places text w n l f
+  Reasoned (printed ls R) = Unit {0}
+
+  made : (S : Sheet) (p : ℕ) → Reasoned (madeFor S p)
+  unfolding madeFor Reasoned
+  made S p = tt
+
+  played : (S : Sheet) (vs : List (Option ℕ)) (es : List Event) → Reasoned (playedFor S vs es)
+  unfolding playedFor Reasoned
+  played S vs es = tt
+
+  checked : (K p : ℕ) (E : Entries) (R : List Row) → Room s places text → readRequest s ≡ request K E (check p R) → Reasoned (checkedFor (sheetOf K E) p R)
+  unfolding checkedFor faultFor Reasoned Numbered
+  checked K p E R r e =
+      let S = sheetOf K E in
+      let f = rows.check S p R in
+      cond-cases Reasoned (eqb (f .number) 0) (printed (liquidBy S p R ∷ []) R) (refused (f .number) (length (S .defs) + 2 + f .place) 0) (λ z. tt) λ z.
+      let range = ⊎-elim (λ i. absurd (eqb-false _ _ z i)) (λ i. i) (check-numbered S p R) in
+      (rowsRefused, judged r e range (omega (arith, formed s K E (check p R) e .some-def)))
+
+  reading : Room s places text → (w : Reading) → readRequest s ≡ w → Reasoned (judgedFrom s w)
+  unfolding judgedFrom answerFor Reasoned OfReadings
+  reading r (request K E (make p)) e = made (sheetOf K E) p
+  reading r (request K E (check p R)) e = checked K p E R r e
+  reading r (request K E (play v z)) e = played (sheetOf K E) (valuesOf s v (defEntryAt E 0 .secrets)) (eventsOf s K z)
+  reading r (unread n l f) e = (notRead, bad r e (of-readings s n l f e))
+
+  narrow : length s ≤ 65536 → (places < 512) ⊎ (text < leastText) → Reasoned (answerTo s places text)
+  unfolding Reasoned
+  narrow h i = subst Reasoned (sym (answer-short s places text h i)) (shortBuffers, short h i)
+
+  reasoned : Reasoned (answerTo s places text)
+  unfolding Reasoned
+  reasoned =
+      by-cases (decLe (length s) 65536)
+      (λ h. by-cases (decLe 512 places)
+      (λ i. by-cases (decLe leastText text)
+      (λ j.
+      let r : Room s places text = record { bytes = h; enough-places = i; enough-text = j } in
+      subst Reasoned (sym (answer-room s places text r)) (reading r (readRequest s) refl))
+      (λ j. narrow h (inr (omega arith))))
+      (λ i. narrow h (inl (omega arith))))
+      (λ h. subst Reasoned (sym (answer-long s places text (omega arith))) (tooLong, long (omega arith)))
+
+pub of-refusals : OfRefusals
+unfolding Reasoned
+of-refusals =
+    record {
+      why = λ s places text n l f e. subst (Reasoned s places text) e (reasoned s places text);
+      alone = λ s places text h i. sym (refused-why h) ∙ refused-why i;
+      number = λ s places text n l f e. refused-number (subst (Reasoned s places text) e (reasoned s places text) .1);
+      long-first = answer-long;
+      short-next = answer-short;
+      bad-next = answer-unread;
+      events = λ s K v e E h. of-events .all _ _ (eventsOf s K e) (events-range s K e);
+    }

@@ -3,13 +3,13 @@ use mathlib.Core.Path.{_≡_}
 use Prim.Native.Nat.{ℕ}
 use mathlib.Core.Option.{none}
 use mathlib.Core.Option.{some as the}
-use mathlib.Core.List.{List, [], _∷_}
+use mathlib.Core.List.{List, [], _∷_, _++_, map}
 use Rattle.bitml.specs.Lists.{All}
 use Rattle.bitml.specs.Sheet.{Sheet, Node, Branch, Action, withdraw, split, reveal, renewAs, always}
 use Rattle.bitml.specs.Rows.{Row}
 use Rattle.bitml.specs.Ledger.{wait, sign, tell, fire, renew}
 use Rattle.bitml.specs.Promises.{WellFormed}
-use Rattle.bitml.specs.Answers.{Request, making, checking, playing, Line, rowLine, liquidLine, frozenLine, refusedLine, takenLine, endLine, answer}
+use Rattle.bitml.specs.Answers.{Request, making, checking, playing, Line, rowLine, liquidLine, frozenLine, refusedLine, takenLine, endLine, Answer, refused, printed, answer}
 
 -- ---- the sheets, with K = 2 and one definition
 
@@ -57,54 +57,55 @@ Seven = sheet (7 ∷ 0 ∷ []) [] (node (branch 0 0 (halves 1 2) ∷ []) ∷ nod
 
 -- ---- the list
 
+-- Rows that are printed and held, and the last line
+unfoldable pub listed : List Row → Line → Answer
+listed R l = printed (map rowLine R ++ (l ∷ [])) R
+
 abbrev pub Case : Type 0
-Case = Request × List Line
+Case = Request × Answer
 
 unfoldable pub cases : List Case
 cases =
     -- ★1 to ★5
-    (making T 0, rowLine (row 0 1 1) ∷ rowLine (row 1 0 1) ∷ liquidLine 0 2 1 ∷ [])
-    ∷ (checking T 0 (row 1 0 1 ∷ row 0 0 2 ∷ []), liquidLine 0 2 2 ∷ [])
-    ∷ (checking T 0 (row 1 0 1 ∷ row 0 0 1 ∷ []), refusedLine 13 5 0 ∷ [])
-    ∷ (checking T 1 (row 0 0 2 ∷ row 1 0 1 ∷ []), refusedLine 12 4 0 ∷ [])
-    ∷ (checking T 0 (row 0 1 1 ∷ []), refusedLine 11 4 0 ∷ [])
+    (making T 0, listed (row 0 1 1 ∷ row 1 0 1 ∷ []) (liquidLine 0 2 1))
+    ∷ (checking T 0 (row 1 0 1 ∷ row 0 0 2 ∷ []), printed (liquidLine 0 2 2 ∷ []) (row 1 0 1 ∷ row 0 0 2 ∷ []))
+    ∷ (checking T 0 (row 1 0 1 ∷ row 0 0 1 ∷ []), refused 13 5 0)
+    ∷ (checking T 1 (row 0 0 2 ∷ row 1 0 1 ∷ []), refused 12 4 0)
+    ∷ (checking T 0 (row 0 1 1 ∷ []), refused 11 4 0)
     -- ★6 and ★7
-    ∷ (making M 0, frozenLine 0 1 ∷ [])
-    ∷ (
-      making M 1,
-      rowLine (row 0 1 1) ∷ rowLine (row 1 0 4) ∷ rowLine (row 2 0 3) ∷ rowLine (row 3 0 1) ∷ rowLine (row 4 0 1) ∷ liquidLine 1 5 1 ∷ [],
-    )
+    ∷ (making M 0, printed (frozenLine 0 1 ∷ []) [])
+    ∷ (making M 1, listed (row 0 1 1 ∷ row 1 0 4 ∷ row 2 0 3 ∷ row 3 0 1 ∷ row 4 0 1 ∷ []) (liquidLine 1 5 1))
     -- ★8, for both
-    ∷ (making D 0, frozenLine 0 0 ∷ [])
-    ∷ (making D 1, frozenLine 1 0 ∷ [])
+    ∷ (making D 0, printed (frozenLine 0 0 ∷ []) [])
+    ∷ (making D 1, printed (frozenLine 1 0 ∷ []) [])
     -- ★9
-    ∷ (making R 0, rowLine (row 0 2 1) ∷ rowLine (row 1 0 1) ∷ liquidLine 0 2 1 ∷ [])
+    ∷ (making R 0, listed (row 0 2 1 ∷ row 1 0 1 ∷ []) (liquidLine 0 2 1))
     -- ★10
     ∷ (
       playing T (none ∷ []) (wait 499 ∷ fire 0 1 ∷ wait 1 ∷ fire 0 1 ∷ []),
-      takenLine ∷ refusedLine 15 5 0 ∷ takenLine ∷ takenLine ∷ endLine 500 0 (0 ∷ 100 ∷ []) ∷ [],
+      printed (takenLine ∷ refusedLine 15 5 0 ∷ takenLine ∷ takenLine ∷ endLine 500 0 (0 ∷ 100 ∷ []) ∷ []) [],
     )
     -- 10, 11, 14, 16, 17 and 19 as in the table of refusals
-    ∷ (checking T 0 (row 0 1 1 ∷ row 0 1 1 ∷ []), refusedLine 10 5 0 ∷ [])
-    ∷ (checking T 0 [], refusedLine 11 3 0 ∷ [])
+    ∷ (checking T 0 (row 0 1 1 ∷ row 0 1 1 ∷ []), refused 10 5 0)
+    ∷ (checking T 0 [], refused 11 3 0)
     ∷ (
       playing D [] (fire 9 0 ∷ fire 0 0 ∷ sign 0 0 0 ∷ sign 0 0 0 ∷ sign 1 0 0 ∷ fire 0 0 ∷ []),
-      refusedLine 14 4 0 ∷ refusedLine 16 5 0 ∷ takenLine ∷ refusedLine 16 7 0 ∷ takenLine ∷ takenLine ∷ endLine 0 0 (2 ∷ 0 ∷ []) ∷ [],
+      printed (refusedLine 14 4 0 ∷ refusedLine 16 5 0 ∷ takenLine ∷ refusedLine 16 7 0 ∷ takenLine ∷ takenLine ∷ endLine 0 0 (2 ∷ 0 ∷ []) ∷ []) [],
     )
     ∷ (
       playing T (none ∷ []) (tell 0 0 ∷ wait 4294967295 ∷ wait 1 ∷ []),
-      refusedLine 17 4 0 ∷ takenLine ∷ refusedLine 19 6 0 ∷ endLine 4294967295 1 (0 ∷ 0 ∷ []) ∷ [],
+      printed (refusedLine 17 4 0 ∷ takenLine ∷ refusedLine 19 6 0 ∷ endLine 4294967295 1 (0 ∷ 0 ∷ []) ∷ []) [],
     )
     -- 18; a told secret of set 0 does not serve the renewed contract, which has the deposits of both
     ∷ (
       playing R (the 7 ∷ []) (renew 0 0 [] ∷ tell 0 0 ∷ renew 0 0 (the 8 ∷ []) ∷ fire 1 1 ∷ tell 1 0 ∷ fire 1 1 ∷ fire 2 0 ∷ []),
-      refusedLine 18 4 0 ∷ takenLine ∷ takenLine ∷ refusedLine 17 7 0 ∷ takenLine ∷ takenLine ∷ takenLine ∷ endLine 0 0 (2 ∷ 0 ∷ []) ∷ [],
+      printed (refusedLine 18 4 0 ∷ takenLine ∷ takenLine ∷ refusedLine 17 7 0 ∷ takenLine ∷ takenLine ∷ takenLine ∷ endLine 0 0 (2 ∷ 0 ∷ []) ∷ []) [],
     )
     -- 3 and 4
-    ∷ (playing Seven [] (fire 0 0 ∷ fire 1 0 ∷ fire 2 0 ∷ []), takenLine ∷ takenLine ∷ takenLine ∷ endLine 0 0 (3 ∷ 4 ∷ []) ∷ [])
+    ∷ (playing Seven [] (fire 0 0 ∷ fire 1 0 ∷ fire 2 0 ∷ []), printed (takenLine ∷ takenLine ∷ takenLine ∷ endLine 0 0 (3 ∷ 4 ∷ []) ∷ []) [])
     ∷ []
 
--- THE PROPOSITION: each request of the list gets its lines
+-- THE PROPOSITION: each request of the list gets its answer
 unfoldable pub Stars : Type 0
 Stars = All (λ (c : Case). answer (c .0) ≡ c .1) cases
 

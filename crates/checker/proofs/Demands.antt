@@ -14,7 +14,7 @@ use Rattle.bitml.specs.Promises.{WellFormed}
 use Rattle.bitml.specs.Rows as rows
 use Rattle.bitml.specs.Rows.{Row, has, Accepted, Fault, orElse, repeated, rowFault, faulty}
 use Rattle.bitml.specs.Liquidity.{Liquidity}
-use Rattle.bitml.specs.Answers.{madeLines}
+use Rattle.bitml.specs.Answers.{making, checking, refused, madeBy, checkedBy, answer}
 use Rattle.bitml.proofs.Demands.{demands}
 use Rattle.tables.specs.Entries.{Entries}
 use Rattle.tables.specs.SheetOf.{sheetOf}
@@ -22,8 +22,6 @@ use Rattle.reader.specs.Request.{request, LastPart, make, check, readRequest}
 use Rattle.reader.proofs.Formed.{well-formed}
 use Rattle.promises.specs.Texts.{PromisedWhole}
 use Rattle.promises.proofs.Whole.{promised-whole}
-use Rattle.replies.specs.Answer.{refused, printed}
-use Rattle.verdicts.specs.Judged.{rowsOfVerdict, madeFor, faultFor, checkedFor}
 use Rattle.checker.specs.Entry.{answerFor, judged, answerTo}
 use Rattle.checker.specs.Demands.{Leaves, MadeRows, MadeFrozen, RowsTaken, RowsRefused, Room, OfReplies}
 use Rattle.checker.proofs.Entry.{early-none}
@@ -83,23 +81,23 @@ module _ (S : Sheet) (wf : WellFormed S) (p : ℕ) where
   unfolding Leaves Liquidity
   leaves R ok = demands .liquidity S wf p R ok
 
-  made : MadeRows S p (madeFor S p) ⊎ MadeFrozen S p (madeFor S p)
-  unfolding madeFor madeLines rowsOfVerdict
+  made : MadeRows S p (answer (making S p)) ⊎ MadeFrozen S p (answer (making S p))
+  unfolding answer madeBy
   made = ⊎-elim
       (λ v.
       let ok = demands .check-is-accepted S p _ .0 (demands .published S wf p (v .1) .1) in
-      inl (record { answer = ap (λ w. printed (madeLines S p w) (rowsOfVerdict w)) (v .0); liquid = v .1; accepted = ok; leaves = leaves _ ok }))
-      (λ v. inr (record { node = v .0; answer = ap (λ w. printed (madeLines S p w) (rowsOfVerdict w)) (v .1); frozen = v .2 }))
+      inl (record { answer = ap (madeBy S p) (v .0); liquid = v .1; accepted = ok; leaves = leaves _ ok }))
+      (λ v. inr (record { node = v .0; answer = ap (madeBy S p) (v .1); frozen = v .2 }))
       (demands .verdict S wf p)
 
-  checked : (R : List Row) → RowsTaken S p R (checkedFor S p R) ⊎ RowsRefused S p R (checkedFor S p R)
-  unfolding checkedFor faultFor Numbered
+  checked : (R : List Row) → RowsTaken S p R (answer (checking S p R)) ⊎ RowsRefused S p R (answer (checking S p R))
+  unfolding answer checkedBy Numbered
   checked R = ⊎-elim (λ e. inl (taken e)) (λ h. inr (declined h)) (check-numbered S p R)
     where
-      taken : rows.check S p R .number ≡ 0 → RowsTaken S p R (checkedFor S p R)
+      taken : rows.check S p R .number ≡ 0 → RowsTaken S p R (answer (checking S p R))
       taken e = let ok = demands .check-is-accepted S p R .0 e in record { answer = rw (eq-eqb _ _ e); accepted = ok; leaves = leaves R ok }
 
-      declined : (10 ≤ rows.check S p R .number) × (rows.check S p R .number ≤ 13) → RowsRefused S p R (checkedFor S p R)
+      declined : (10 ≤ rows.check S p R .number) × (rows.check S p R .number ≤ 13) → RowsRefused S p R (answer (checking S p R))
       declined h = record {
         number = rows.check S p R .number;
         line = length (S .defs) + 2 + rows.check S p R .place;

@@ -11,6 +11,7 @@ use mathlib.Core.Logic.{by-cases}
 use native.Mathlib.Decide.{decLe}
 use Rattle.bitml.specs.Lists.{_&_, ask}
 use Rattle.bitml.specs.Rows as bitml
+use Rattle.bitml.specs.Answers.{making, checking, playing, Answer, refused, printed, answer}
 use Rattle.tables.specs.Entries.{held, people, tableLong}
 use Rattle.tables.specs.SheetOf.{sheetIn, nodeEntryAt, defEntryAt}
 use Rattle.tables.proofs.Laws.{firstOf-getD}
@@ -30,11 +31,9 @@ use Rattle.exits.specs.Made.{flat, filled}
 use Rattle.exits.proofs.Buffer.{flat-length}
 use Rattle.lent.specs.Structs.{structs}
 use Rattle.lent.proofs.Structs.{structs-filled, structs-cleared}
-use Rattle.replies.specs.Answer.{Answer, refused, printed, numbersOf, Gives, leastText}
-use Rattle.verdicts.specs.Judged.{madeFor, checkedFor}
+use Rattle.replies.specs.Answer.{numbersOf, Gives, leastText}
 use Rattle.plays.specs.Values.{valuesOf}
 use Rattle.plays.specs.Events.{eventsOf}
-use Rattle.plays.specs.Played.{playedFor}
 use Rattle.checker.specs.Entry.{answerFor, judged, early, answerTo, placesOf}
 
 -- ---- what is known of the table t and the row buffer u after reading
@@ -76,16 +75,16 @@ module _ (s t u : List ℕ) (x : Request) (read : answered x t u ≡ readRequest
 
   -- the answer, by what was read
   module _ {n m : ℕ} {r : Reply} {v b : List ℕ} where
-    pub judged-make : (p : ℕ) → x ≡ code.Make p → Gives (madeFor (sheetIn t) p) n m r v b → Gives (judged s (readRequest s)) n m r v b
+    pub judged-make : (p : ℕ) → x ≡ code.Make p → Gives (answer (making (sheetIn t) p)) n m r v b → Gives (judged s (readRequest s)) n m r v b
     unfolding answered judged answerFor
     judged-make p e g = subst (λ w. Gives (judged s w) n m r v b) (ap (λ y. answered y t u) (sym e) ∙ read) g
 
-    pub judged-check : (p k : ℕ) → x ≡ code.Check p k → Gives (checkedFor (sheetIn t) p (rowsOf k u)) n m r v b → Gives (judged s (readRequest s)) n m r v b
+    pub judged-check : (p k : ℕ) → x ≡ code.Check p k → Gives (answer (checking (sheetIn t) p (rowsOf k u))) n m r v b → Gives (judged s (readRequest s)) n m r v b
     unfolding answered judged answerFor
     judged-check p k e g = subst (λ w. Gives (judged s w) n m r v b) (ap (λ y. answered y t u) (sym e) ∙ read) g
 
     pub judged-play : (w e : ℕ) → x ≡ code.Play w e
-        → Gives (playedFor (sheetIn t) (valuesOf s w (defEntryAt (held t) 0 .secrets)) (eventsOf s (people t) e)) n m r v b → Gives (judged s (readRequest s)) n m r v b
+        → Gives (answer (playing (sheetIn t) (valuesOf s w (defEntryAt (held t) 0 .secrets)) (eventsOf s (people t) e))) n m r v b → Gives (judged s (readRequest s)) n m r v b
     unfolding answered judged answerFor
     judged-play w e h g = subst (λ y. Gives (judged s y) n m r v b) (ap (λ y. answered y t u) (sym h) ∙ read) g
 

@@ -7,7 +7,6 @@ use mathlib.Core.List.{List, [], _∷_, _++_, map}
 use lib.ListN.{length, take, drop, replicate, length-append}
 use lib.Seq.{length-take-le, take-append-seam, drop-append-seam}
 use lib.Dec.{eqb}
-use mathlib.Core.Option.{Option}
 use borrow.Author.Tests.{le-leb, lt-leb}
 use Rattle.bitml.specs.Rows as bitml
 use Rattle.tables.specs.SheetOf.{sheetOf, defEntryAt}
@@ -15,21 +14,19 @@ use Rattle.replies.specs.declared.Reply.{Reply}
 use Rattle.texts.specs.Wrote.{Wrote}
 use Rattle.texts.specs.Text.{lineText, linesText, fields, line}
 use Rattle.texts.proofs.Writing.{wrote-none, drop-zeros}
-use Rattle.bitml.specs.Answers.{refusedLine, Line, rowLine, liquidLine, frozenLine, takenLine, endLine, liquidBy, madeLines, eventLines, endOf, playLines}
-use Rattle.replies.specs.Answer.{Answer, refused, printed, replyOf, bytesOf}
-use Rattle.verdicts.specs.Judged.{madeFor, checkedFor, rowsOfVerdict, faultFor}
+use Rattle.bitml.specs.Answers.{Request, making, checking, playing, refusedLine, Line, rowLine, liquidLine, frozenLine, takenLine, endLine, Answer, refused, printed, liquidBy, madeBy, checkedBy, eventLines, endOf, playLines, answer}
+use Rattle.replies.specs.Answer.{replyOf, bytesOf}
 use Rattle.bitml.specs.Sheet.{Sheet}
-use Rattle.bitml.specs.Ledger.{Event, stipulated}
+use Rattle.bitml.specs.Ledger.{stipulated}
 use Rattle.bitml.specs.Limits.{answers, limitedPlay}
 use Rattle.plays.specs.Values.{valuesOf}
 use Rattle.plays.specs.Events.{eventsOf}
-use Rattle.plays.specs.Played.{playedFor}
 use Rattle.bitml.specs.Rule.{Verdict, liquid, frozen, make}
 use Rattle.texts.proofs.Texts.{lines-append, one-line}
 use Rattle.bitml.specs.Rows.{check}
 use Rattle.reader.specs.Request.{Reading, request, readRequest}
 use Rattle.reader.specs.Request.{refused as unread}
-use Rattle.reader.specs.Request.{make as making, check as checking, play as playing}
+use Rattle.reader.specs.Request as part
 use Rattle.checker.specs.Entry.{answerFor, judged, early, answerTo, refusedIn, textIn}
 
 -- ---- the line of a refused request
@@ -50,31 +47,30 @@ pub data Says : Answer → Type 0 where
   refusal : (n l f : ℕ) → Says (refused n l f)
   lines : (ls : List Line) (l : Line) (R : List bitml.Row) → Says (printed (ls ++ (l ∷ [])) R)
 
-made-says : (s : Sheet) (p : ℕ) → Says (madeFor s p)
-unfolding madeFor madeLines rowsOfVerdict
-made-says s p = go (make s p)
-  where
-    go : (v : Verdict) → Says (printed (madeLines s p v) (rowsOfVerdict v))
-    go (liquid R) = lines (map rowLine R) (liquidBy s p R) R
-    go (frozen n) = lines [] (frozenLine p n) []
+made-says : (s : Sheet) (p : ℕ) (v : Verdict) → Says (madeBy s p v)
+unfolding madeBy
+made-says s p (liquid R) = lines (map rowLine R) (liquidBy s p R) R
+made-says s p (frozen n) = lines [] (frozenLine p n) []
 
-checked-says : (s : Sheet) (p : ℕ) (R : List bitml.Row) → Says (checkedFor s p R)
-unfolding checkedFor faultFor
-checked-says s p R = go (eqb (check s p R .number) 0)
+checked-says : (s : Sheet) (p : ℕ) (R : List bitml.Row) (f : bitml.Fault) → Says (checkedBy s p R f)
+unfolding checkedBy
+checked-says s p R f = go (eqb (f .number) 0)
   where
-    go : (x : Bool) → Says (cond x (printed (liquidBy s p R ∷ []) R) (refused (check s p R .number) (length (s .defs) + 2 + check s p R .place) 0))
+    go : (x : Bool) → Says (cond x (printed (liquidBy s p R ∷ []) R) (refused (f .number) (length (s .defs) + 2 + f .place) 0))
     go true = lines [] (liquidBy s p R) R
-    go false = refusal (check s p R .number) (length (s .defs) + 2 + check s p R .place) 0
+    go false = refusal (f .number) (length (s .defs) + 2 + f .place) 0
 
-played-says : (s : Sheet) (vs : List (Option ℕ)) (es : List Event) → Says (playedFor s vs es)
-unfolding playedFor playLines
-played-says s vs es = lines (eventLines (length (s .defs) + 3) (answers s (stipulated s vs) es)) (endOf (limitedPlay s (stipulated s vs) es)) []
+says : (q : Request) → Says (answer q)
+unfolding answer playLines
+says (making s p) = made-says s p (make s p)
+says (checking s p R) = checked-says s p R (check s p R)
+says (playing s vs es) = lines (eventLines (length (s .defs) + 3) (answers s (stipulated s vs) es)) (endOf (limitedPlay s (stipulated s vs) es)) []
 
 judged-says : (s : List ℕ) (w : Reading) → Says (judged s w)
 unfolding judged answerFor
-judged-says s (request K E (making p)) = made-says (sheetOf K E) p
-judged-says s (request K E (checking p R)) = checked-says (sheetOf K E) p R
-judged-says s (request K E (playing v e)) = played-says (sheetOf K E) (valuesOf s v (defEntryAt E 0 .secrets)) (eventsOf s K e)
+judged-says s (request K E (part.make p)) = says (making (sheetOf K E) p)
+judged-says s (request K E (part.check p R)) = says (checking (sheetOf K E) p R)
+judged-says s (request K E (part.play v e)) = says (playing (sheetOf K E) (valuesOf s v (defEntryAt E 0 .secrets)) (eventsOf s K e))
 judged-says s (unread n l f) = refusal n l f
 
 pub answer-says : (s : List ℕ) (n m : ℕ) → Says (answerTo s n m)

@@ -15,7 +15,8 @@ use Rattle.bitml.specs.Sheet.{Sheet}
 use Rattle.bitml.specs.Rows as rows
 use Rattle.bitml.specs.Rows.{Row}
 use Rattle.bitml.specs.Ledger.{Event}
-use Rattle.bitml.specs.Answers.{liquidBy}
+use Rattle.bitml.specs.Rule.{Verdict, liquid, frozen}
+use Rattle.bitml.specs.Answers.{liquidBy, Answer, refused, printed, making, checking, playing, madeBy, checkedBy, answer}
 use Rattle.bitml.proofs.Lists.{and-no, and-false, and-i}
 use Rattle.fields.proofs.Ranges.{cond-cases}
 use Rattle.tables.specs.Entries.{Entries}
@@ -25,11 +26,9 @@ use Rattle.reader.specs.Request.{refused as unread}
 use Rattle.promises.specs.Refusals.{ReadNumber, OfReadings}
 use Rattle.promises.proofs.Refusals.{of-readings}
 use Rattle.promises.proofs.Events.{of-events}
-use Rattle.replies.specs.Answer.{Answer, refused, printed, leastText}
-use Rattle.verdicts.specs.Judged.{madeFor, faultFor, checkedFor}
+use Rattle.replies.specs.Answer.{leastText}
 use Rattle.plays.specs.Values.{valuesOf}
 use Rattle.plays.specs.Events.{eventsOf}
-use Rattle.plays.specs.Played.{playedFor}
 use Rattle.plays.proofs.Ranges.{events-range}
 use Rattle.checker.specs.Demands.{Room}
 use Rattle.checker.specs.Entry.{answerFor, answerTo}
@@ -102,16 +101,21 @@ module _ (s : List ℕ) (places text : ℕ) where
   Reasoned (refused n l f) = (w : Why) × Refused s places text w n l f
   Reasoned (printed ls R) = Unit {0}
 
-  made : (S : Sheet) (p : ℕ) → Reasoned (madeFor S p)
-  unfolding madeFor Reasoned
-  made S p = tt
+  made-by : (S : Sheet) (p : ℕ) (v : Verdict) → Reasoned (madeBy S p v)
+  unfolding madeBy Reasoned
+  made-by S p (liquid R) = tt
+  made-by S p (frozen n) = tt
 
-  played : (S : Sheet) (vs : List (Option ℕ)) (es : List Event) → Reasoned (playedFor S vs es)
-  unfolding playedFor Reasoned
+  made : (S : Sheet) (p : ℕ) → Reasoned (answer (making S p))
+  unfolding answer
+  made S p = made-by S p _
+
+  played : (S : Sheet) (vs : List (Option ℕ)) (es : List Event) → Reasoned (answer (playing S vs es))
+  unfolding answer Reasoned
   played S vs es = tt
 
-  checked : (K p : ℕ) (E : Entries) (R : List Row) → Room s places text → readRequest s ≡ request K E (check p R) → Reasoned (checkedFor (sheetOf K E) p R)
-  unfolding checkedFor faultFor Reasoned Numbered
+  checked : (K p : ℕ) (E : Entries) (R : List Row) → Room s places text → readRequest s ≡ request K E (check p R) → Reasoned (answer (checking (sheetOf K E) p R))
+  unfolding answer checkedBy Reasoned Numbered
   checked K p E R r e =
       let S = sheetOf K E in
       let f = rows.check S p R in

@@ -22,10 +22,8 @@ use Rattle.bitml.specs.Lists.{_&_, _or_, _⇒_, ask, nil, cons}
 use Rattle.bitml.specs.Rows as rows
 use Rattle.bitml.specs.Rule as rule
 use Rattle.texts.specs.Text as text
-use Rattle.verdicts.specs.Judged as verdicts
 use Rattle.plays.specs.Values as values
 use Rattle.plays.specs.Events as played-events
-use Rattle.plays.specs.Played as played
 use Rattle.checker.specs.Entry.{answerFor, judged, early, answerTo, refusedIn, textIn}
 use Rattle.checker.specs.Stars.{printedFor, T, M, D, R, cases, Stars}
 
@@ -46,12 +44,11 @@ unfolding Stars cases T M D R printedFor textIn refusedIn answerTo early judged 
     row-lines.rowNumbersAt row-lines.rowAt row-lines.noRoomAt row-lines.withLine row-lines.rowsFrom row-lines.rowsAt
     events.pairAt events.afterPair events.lastPairAt events.waitAt events.signAt events.tellAt events.fireAt events.valuesFrom events.valuesAt events.renewAt events.eventAt events.nextOf events.eventsFrom events.eventsAt
     request.refusedAt request.fromRows request.fromLines request.fromPart request.fromSheet request.readRequest
-    answers.liquidBy answers.madeLines answers.orRefused answers.eventLines answers.endOf answers.playLines ledger.refusal ledger.after ledger.stipulated limits.depositsTaken limits.within limits.limitedRefusal limits.limitedStep limits.answers limits.limitedPlay values.valueOf values.behind values.valuesOf played-events.eventOf played-events.eventsUpTo played-events.eventsOf played.playedFor
+    answers.liquidBy answers.madeBy answers.checkedBy answers.answer answers.eventLine answers.eventLines answers.endOf answers.playLines ledger.refusal ledger.after ledger.stipulated limits.depositsTaken limits.within limits.limitedRefusal limits.limitedStep limits.answers limits.limitedPlay values.valueOf values.behind values.valuesOf played-events.eventOf played-events.eventsUpTo played-events.eventsOf
     _&_ _or_ _⇒_ ask
     rows.repeated rows.rowFault rows.faulty rows.check
     rule.costOf rule.cost rule.better rule.choose rule.choices rule.choiceAt rule.round rule.rounds rule.reached rule.rowFor rule.rows rule.stuck rule.make
     text.digits text.decimal text.field text.fields text.line text.lineText text.linesText
-    verdicts.rowsOfVerdict verdicts.madeFor verdicts.faultFor verdicts.checkedFor
 stars =
     cons refl (cons refl (cons refl (cons refl (cons refl (
     cons refl (cons refl (cons refl (cons refl (cons refl (cons refl (cons refl (cons refl (cons refl (cons refl (cons refl (cons refl (

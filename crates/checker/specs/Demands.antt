@@ -11,12 +11,12 @@ use Rattle.bitml.specs.Rows.{Row, Accepted}
 use Rattle.bitml.specs.Rule.{rows}
 use Rattle.bitml.specs.Ledger.{Event, play, stipulated}
 use Rattle.bitml.specs.Liquidity.{Numbers, NumbersAlong, NoneLive, liveRank, Way}
-use Rattle.bitml.specs.Answers.{rowLine, frozenLine, liquidBy}
+use Rattle.bitml.specs.Answers.{rowLine, frozenLine, Answer, refused, printed, liquidBy}
 use Rattle.bitml.specs.Demands.{Frozen}
 use Rattle.tables.specs.Entries.{Entries}
 use Rattle.tables.specs.SheetOf.{sheetOf}
 use Rattle.reader.specs.Request.{request, make, check, readRequest}
-use Rattle.replies.specs.Answer.{Answer, refused, printed, leastText}
+use Rattle.replies.specs.Answer.{leastText}
 use Rattle.checker.specs.Entry.{answerTo}
 
 -- Demand 3, first half: "one claim about the whole list of events". Wherever they lead from stipulation, P alone can empty

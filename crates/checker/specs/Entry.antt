@@ -9,21 +9,19 @@ use Rattle.tables.specs.Entries.{Entries}
 use Rattle.tables.specs.SheetOf.{sheetOf, defEntryAt}
 use Rattle.reader.specs.Request.{Reading, request, LastPart, make, check, play, readRequest}
 use Rattle.reader.specs.Request.{refused as unread}
-use Rattle.bitml.specs.Answers.{refusedLine}
+use Rattle.bitml.specs.Answers.{refusedLine, making, checking, playing, Answer, refused, printed, answer}
 use Rattle.texts.specs.Text.{lineText, linesText}
 use Rattle.lent.specs.declared.Row.{Row}
 use Rattle.lent.specs.Structs.{noRow, structOf}
-use Rattle.replies.specs.Answer.{Answer, refused, printed, leastText}
-use Rattle.verdicts.specs.Judged.{madeFor, checkedFor}
+use Rattle.replies.specs.Answer.{leastText}
 use Rattle.plays.specs.Values.{valuesOf}
 use Rattle.plays.specs.Events.{eventsOf}
-use Rattle.plays.specs.Played.{playedFor}
 
 -- "one last part: `make`,P; or `check`,P ..; or `play` .."
 unfoldable pub answerFor : List ℕ → ℕ → Entries → LastPart → Answer
-answerFor s K E (make p) = madeFor (sheetOf K E) p
-answerFor s K E (check p R) = checkedFor (sheetOf K E) p R
-answerFor s K E (play v e) = playedFor (sheetOf K E) (valuesOf s v (defEntryAt E 0 .secrets)) (eventsOf s K e)
+answerFor s K E (make p) = answer (making (sheetOf K E) p)
+answerFor s K E (check p R) = answer (checking (sheetOf K E) p R)
+answerFor s K E (play v e) = answer (playing (sheetOf K E) (valuesOf s v (defEntryAt E 0 .secrets)) (eventsOf s K e))
 
 -- "The reader goes field by field over the whole request before anything is judged"
 unfoldable pub judged : List ℕ → Reading → Answer

@@ -8,12 +8,13 @@ use Rattle.bitml.specs.Lists.{All}
 use Rattle.bitml.specs.Rows.{Row}
 use Rattle.bitml.specs.Ledger.{stipulated}
 use Rattle.bitml.specs.Limits.{answers}
+use Rattle.bitml.specs.Answers.{refused}
 use Rattle.tables.specs.Entries.{Entries}
 use Rattle.tables.specs.SheetOf.{sheetOf, defEntryAt}
 use Rattle.reader.specs.Request.{request, check, play, readRequest}
 use Rattle.reader.specs.Request.{refused as unread}
 use Rattle.promises.specs.Refusals.{WhileReading, EventNumber}
-use Rattle.replies.specs.Answer.{refused, leastText}
+use Rattle.replies.specs.Answer.{leastText}
 use Rattle.plays.specs.Values.{valuesOf}
 use Rattle.plays.specs.Events.{eventsOf}
 use Rattle.checker.specs.Demands.{Room}

@@ -10,7 +10,7 @@ use Rattle.bitml.specs.Lists.{ask}
 use Rattle.bitml.specs.Sheet.{Sheet}
 use Rattle.bitml.specs.Ledger.{Ledger, Event, wait, sign, tell, fire, renew, refusal, stipulated}
 use Rattle.bitml.specs.Limits.{within, orLimit, limitedRefusal, limitedStep, answers, limitedPlay}
-use Rattle.bitml.specs.Answers.{takenLine, orRefused, eventLines, endOf, playLines}
+use Rattle.bitml.specs.Answers.{playing, eventLine, eventLines, endOf, playLines, answer}
 use Rattle.exits.specs.Made.{filled}
 use Rattle.texts.specs.Text.{lineText, linesText}
 use Rattle.texts.specs.Wrote.{Wrote}
@@ -19,7 +19,6 @@ use Rattle.texts.proofs.Texts.{one-line}
 use Rattle.texts.proofs.Lengths.{answer-short}
 use Rattle.replies.specs.Answer.{Gives}
 use Rattle.replies.proofs.Giving.{gives-printed}
-use Rattle.plays.specs.Played.{playedFor}
 
 -- ---- an answer is a number of document 01's list
 
@@ -43,7 +42,7 @@ limit-most zero fits h = ask-most fits 19 0 (omega arith) h
 limit-most (suc k) fits h = h
 
 -- so its line, where there are fewer than 100,000 lines, has 19 bytes at the most
-pub answer-most : (s : Sheet) (l : Ledger) (e : Event) (k : ℕ) → k ≤ 99_999 → length (lineText (orRefused k (limitedRefusal s l e) takenLine)) ≤ 19
+pub answer-most : (s : Sheet) (l : Ledger) (e : Event) (k : ℕ) → k ≤ 99_999 → length (lineText (eventLine k (limitedRefusal s l e))) ≤ 19
 unfolding limitedRefusal
 answer-most s l e k h =
     let m = limit-most (refusal s l e) (within s l e) (refusal-most s l e) in
@@ -62,7 +61,7 @@ pub leads-all : (u : List ℕ) (a : ℕ) (whole : List ℕ) → Leads u a whole 
 leads-all u a whole = record { done = λ v c w. w }
 
 module _ {u₀ whole u v : List ℕ} {a b c : ℕ} (s : Sheet) (l : Ledger) (k : ℕ) where
-  pub leads-more : (e : Event) (es : List Event) → Leads u₀ a whole u b (playText s l k (e ∷ es)) → Wrote u b (lineText (orRefused k (limitedRefusal s l e) takenLine)) v c
+  pub leads-more : (e : Event) (es : List Event) → Leads u₀ a whole u b (playText s l k (e ∷ es)) → Wrote u b (lineText (eventLine k (limitedRefusal s l e))) v c
       → Leads u₀ a whole v c (playText s (limitedStep s l e) (suc k) es)
   unfolding playLines eventLines answers limitedPlay linesText
   leads-more e es t x = record { done = λ z d w. t .done z d (wrote-then x w) }
@@ -73,7 +72,7 @@ module _ {u₀ whole u v : List ℕ} {a b c : ℕ} (s : Sheet) (l : Ledger) (k :
 
 -- the whole text is the answer
 pub play-gives : (s : Sheet) (vs : List (Option ℕ)) (es : List Event) (l : Ledger) (first n m k : ℕ) (u z b : List ℕ) → l ≡ stipulated s vs → first ≡ length (s .defs) + 3
-    → z ≡ replicate m 0 → u ≡ filled n [] → Wrote z 0 (playText s l first es) b k → Gives (playedFor s vs es) n m (record { number = 0; line = 0; field = 0; length = k }) u b
-unfolding playedFor
+    → z ≡ replicate m 0 → u ≡ filled n [] → Wrote z 0 (playText s l first es) b k → Gives (answer (playing s vs es)) n m (record { number = 0; line = 0; field = 0; length = k }) u b
+unfolding answer
 play-gives s vs es l first n m k u z b hl hf c e w =
     gives-printed (playLines s (stipulated s vs) (length (s .defs) + 3) es) [] n m k u z b c (subst (λ xs. Wrote z 0 xs b k) (ap₂ (λ p i. playText s p i es) hl hf) w) e

@@ -8,7 +8,7 @@ use lib.ListN.{length, getD, take}
 use lib.Seq.{ext-getD, length-take-le, getD-take}
 use Rattle.bitml.specs.Ledger.{Event, wait, sign, tell, fire, renew}
 use Rattle.bitml.specs.Limits.{limitedRefusal}
-use Rattle.bitml.specs.Answers.{takenLine, endLine, orRefused, endOf}
+use Rattle.bitml.specs.Answers.{endLine, eventLine, endOf}
 use Rattle.sheets.specs.Ready.{Ready}
 use Rattle.ledger.proofs.Ending.{end-is}
 use Rattle.fields.specs.declared.Got.{Got}
@@ -163,7 +163,7 @@ module _ (s t : List ℕ) (from first : ℕ) (text₀ : List ℕ) (l₀ : Ledger
         goes-ahead = line-within s (people t) at more (g .good) x rd 0 q (behind-is q (mv .next)) .0
 
         pub goes-more : Bytes s → length s ≤ 65536 → first ≤ 100 → (v : List ℕ) (c : ℕ)
-            → Wrote text e (lineText (orRefused line (m .answer) takenLine)) v c → Goes s t from first text₀ l₀ v m q (line + 1) c
+            → Wrote text e (lineText (eventLine line (m .answer))) v c → Goes s t from first text₀ l₀ v m q (line + 1) c
         goes-more b few low v c w =
             let d = mv .does in
             let S = sheetIn t in
@@ -172,7 +172,7 @@ module _ (s t : List ℕ) (from first : ℕ) (text₀ : List ℕ) (l₀ : Ledger
             let z = behind-is q (mv .next) in
             let k = line-within s (people t) at more (g .good) x rd 0 q z in
             let j = line-long s (people t) at more (g .good) x rd 0 q z b in
-            let w′ : Wrote text e (lineText (orRefused line (limitedRefusal S P y) takenLine)) v c = subst (λ n. Wrote text e (lineText (orRefused line n takenLine)) v c) (d .answer) w in
+            let w′ : Wrote text e (lineText (eventLine line (limitedRefusal S P y))) v c = subst (λ n. Wrote text e (lineText (eventLine line n)) v c) (d .answer) w in
             let a = answer-most S P y line (omega (arith, g .lines-few, g .inside)) in
             let whole = playText S (view (people t) l₀) first (eventsOf s (people t) from) in
             record {

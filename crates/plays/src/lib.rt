@@ -20,7 +20,7 @@ use texts::put_end;
 ghost use mathlib.Core.Path.{_≡_};
 ghost use Prim.Native.Nat.{_+_, _≤_};
 ghost use lib.ListN.{length};
-ghost use Rattle.bitml.specs.Answers.{endOf, playLines};
+ghost use Rattle.bitml.specs.Answers.{playing, endOf, playLines, answer};
 ghost use Rattle.tables.specs.Entries.{held, people};
 ghost use Rattle.tables.specs.SheetOf.{sheetIn, defEntryAt};
 ghost use Rattle.events.specs.Events.{eventsAt};
@@ -34,7 +34,6 @@ ghost use Rattle.texts.specs.Wrote.{Wrote};
 ghost use Rattle.replies.specs.Answer.{Gives, leastText};
 ghost use Rattle.plays.specs.Values.{valuesOf, Valued, Read};
 ghost use Rattle.plays.specs.Events.{eventsOf};
-ghost use Rattle.plays.specs.Played.{playedFor};
 
 // A value as one number, 0 for `x`, else one more than it; and the position after its field.
 pub struct Value {
@@ -153,7 +152,7 @@ pub fn play_for(
     requires { ⌜ Ready (now t) ⌝ }
     requires { ⌜ (length (now s) ≤ 65536) × (leastText ≤ length (now text)) ⌝ }
     requires { ⌜ PlayPromise (now s) (people (now t)) (held (now t)) from to ⌝ }
-    ensures { λ r. ⌜ Gives (playedFor (sheetIn (now (t .entry))) (valuesOf (now (s .entry)) from (defEntryAt (held (now (t .entry))) 0 .secrets)) (eventsOf (now (s .entry)) (people (now (t .entry))) to)) (length (now (rows .entry))) (length (now (text .entry))) r (now (rows .exit)) (now (text .exit)) ⌝ }
+    ensures { λ r. ⌜ Gives (answer (playing (sheetIn (now (t .entry))) (valuesOf (now (s .entry)) from (defEntryAt (held (now (t .entry))) 0 .secrets)) (eventsOf (now (s .entry)) (people (now (t .entry))) to))) (length (now (rows .entry))) (length (now (text .entry))) r (now (rows .exit)) (now (text .exit)) ⌝ }
 {
     let mut x = [0usize; INDEX];
     index(t, &mut x);

@@ -5,13 +5,13 @@ use native.Mathlib.Omega.{arith}
 use mathlib.Core.List.{List, []}
 use lib.ListN.{length, replicate}
 use Rattle.bitml.specs.Rows.{Row}
-use Rattle.bitml.specs.Answers.{Line}
+use Rattle.bitml.specs.Answers.{Line, Answer, refused, printed}
 use Rattle.exits.specs.Made.{filled}
 use Rattle.texts.specs.Text.{linesText}
 use Rattle.texts.specs.Wrote.{Wrote}
 use Rattle.texts.proofs.Writing.{wrote-all}
 use Rattle.replies.specs.declared.Reply.{Reply}
-use Rattle.replies.specs.Answer.{Answer, refused, printed, replyOf, numbersOf, bytesOf, Gives}
+use Rattle.replies.specs.Answer.{replyOf, numbersOf, bytesOf, Gives}
 
 -- lines into a text buffer of zeros, and rows into the row buffer
 pub gives-printed : (ls : List Line) (R : List Row) (n m k : ℕ) (u z b : List ℕ) → z ≡ replicate m 0 → Wrote z 0 (linesText ls) b k → u ≡ filled n R

@@ -1,10 +1,9 @@
--- What a request is answered, and what the lent buffers then hold. Assumes nothing.
+-- What is handed back for an answer, and what the lent buffers then hold. Assumes nothing.
 use mathlib.Core.Path.{_≡_}
 use Prim.Native.Nat.{ℕ, _-_}
 use mathlib.Core.List.{List, [], _++_}
 use lib.ListN.{length, replicate}
-use Rattle.bitml.specs.Rows.{Row}
-use Rattle.bitml.specs.Answers.{Line}
+use Rattle.bitml.specs.Answers.{Answer, refused, printed}
 use Rattle.exits.specs.Made.{filled}
 use Rattle.texts.specs.Text.{linesText}
 use Rattle.replies.specs.declared.Reply.{Reply}
@@ -12,11 +11,6 @@ use Rattle.replies.specs.declared.Reply.{Reply}
 -- every reply fits a text buffer of so many bytes
 abbrev pub leastText : ℕ
 leastText = 180224
-
--- "`refused`,number,line,field"; or the lines that are printed, and the rows of the row buffer
-pub data Answer : Type 0 where
-  refused : ℕ → ℕ → ℕ → Answer
-  printed : List Line → List Row → Answer
 
 -- the value that is handed back: number 0 where the request is answered, and then how many bytes of text there are
 unfoldable pub replyOf : Answer → Reply

@@ -3,7 +3,8 @@ use exits::clear as clear_numbers;
 use texts::clear;
 ghost use mathlib.Core.Path.{_≡_};
 ghost use lib.ListN.{length};
-ghost use Rattle.replies.specs.Answer.{refused, Gives};
+ghost use Rattle.bitml.specs.Answers.{refused};
+ghost use Rattle.replies.specs.Answer.{Gives};
 
 // Refused with number, line and field; or, where the number is 0, answered with so many bytes of text.
 #[repr(C)]

@@ -8,7 +8,7 @@ use lib.ListN.{length, length-append}
 use lib.Dec.{ltb}
 use borrow.Author.Tests.{ltb-false}
 use Rattle.bitml.specs.Rows.{Row}
-use Rattle.bitml.specs.Answers.{rowLine, refusedLine, takenLine, orRefused}
+use Rattle.bitml.specs.Answers.{rowLine, refusedLine, takenLine, eventLine}
 use Rattle.requests.specs.Rows.{rowsOf}
 use Rattle.requests.proofs.Laws.{rows-length}
 use Rattle.texts.specs.Wrote.{Wrote}
@@ -87,8 +87,8 @@ refused-short n l h k =
       decimal-short 1 0 (omega arith) (omega arith),
     )
 
-pub answer-short : (k n : ℕ) → n ≤ 99 → k ≤ 99_999 → length (lineText (orRefused k n takenLine)) ≤ 19
-unfolding orRefused
+pub answer-short : (k n : ℕ) → n ≤ 99 → k ≤ 99_999 → length (lineText (eventLine k n)) ≤ 19
+unfolding eventLine
 answer-short k zero h l = omega (arith, taken-length)
 answer-short k (suc n) h l = refused-short (suc n) k h l
 

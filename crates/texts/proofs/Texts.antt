@@ -9,7 +9,7 @@ use lib.ListN.{length, take, getD, length-append}
 use lib.Seq.{take-suc, take-all}
 use lib.Dec.{ltb}
 use borrow.Author.Tests.{lt-ltb, le-ltb}
-use Rattle.bitml.specs.Answers.{Line, rowLine, refusedLine, takenLine, endLine, orRefused}
+use Rattle.bitml.specs.Answers.{Line, rowLine, refusedLine, takenLine, endLine, eventLine}
 use Rattle.texts.specs.Text.{digits, decimal, letters, field, fields, line, lineText, linesText}
 use Rattle.requests.specs.Rows.{rowIn, rowsOf}
 use Rattle.requests.proofs.Laws.{rows-none, rows-next}
@@ -98,13 +98,13 @@ wrote-end {u = u} {w = w} {b = b} {d = d} t n ps x y z l =
     wrote-line (t ∷ n ∷ ps) x (subst (λ zs. Wrote u b zs w d) (sym (fields-append (t ∷ n ∷ []) ps)) (wrote-then y z)) l
 
 module _ {u v : List ℕ} {a b : ℕ} where
-  pub wrote-taken : (k n : ℕ) → n ≡ 0 → Wrote u a (lineText takenLine) v b → Wrote u a (lineText (orRefused k n takenLine)) v b
-  unfolding orRefused
+  pub wrote-taken : (k n : ℕ) → n ≡ 0 → Wrote u a (lineText takenLine) v b → Wrote u a (lineText (eventLine k n)) v b
+  unfolding eventLine
   wrote-taken k zero e x = x
   wrote-taken k (suc n) e x = absurd (omega arith)
 
-  pub wrote-refused : (k n : ℕ) → (n ≡ 0 → ⊥) → Wrote u a (lineText (refusedLine n k 0)) v b → Wrote u a (lineText (orRefused k n takenLine)) v b
-  unfolding orRefused
+  pub wrote-refused : (k n : ℕ) → (n ≡ 0 → ⊥) → Wrote u a (lineText (refusedLine n k 0)) v b → Wrote u a (lineText (eventLine k n)) v b
+  unfolding eventLine
   wrote-refused k zero f x = absurd (f refl)
   wrote-refused k (suc n) f x = x
 

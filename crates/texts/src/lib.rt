@@ -4,7 +4,7 @@ ghost use mathlib.Core.List.{[], _∷_, map};
 ghost use Prim.Native.Nat.{_+_, _*_, _≤_, _<_};
 ghost use lib.ListN.{length, replicate};
 ghost use Rattle.bitml.specs.Rows.{Row};
-ghost use Rattle.bitml.specs.Answers.{rowLine, liquidLine, frozenLine, refusedLine, takenLine, endLine, orRefused};
+ghost use Rattle.bitml.specs.Answers.{rowLine, liquidLine, frozenLine, refusedLine, takenLine, endLine, eventLine};
 ghost use Rattle.requests.specs.Rows.{rowsOf};
 ghost use Rattle.texts.specs.Text.{decimal, fields, line, lineText, linesText};
 ghost use Rattle.texts.specs.Wrote.{Wrote};
@@ -108,7 +108,7 @@ pub fn put_taken(out: &mut [u8], at: usize) -> usize
 // The answer to an event: taken, or refused by a number other than 0.
 pub fn put_answer(out: &mut [u8], at: usize, number: usize, line: usize) -> usize
     requires { ⌜ at + 80 ≤ length (now out) ⌝ }
-    ensures { λ r. ⌜ Wrote (now (out .entry)) at (lineText (orRefused line number takenLine)) (now (out .exit)) r ⌝ }
+    ensures { λ r. ⌜ Wrote (now (out .entry)) at (lineText (eventLine line number)) (now (out .exit)) r ⌝ }
 {
     if number == 0 {
         return put_taken(out, at);

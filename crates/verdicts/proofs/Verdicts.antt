@@ -11,7 +11,7 @@ use Rattle.bitml.specs.Sheet.{Sheet, defAt}
 use Rattle.bitml.specs.Rows.{Row, Fault, has, rankOf, orElse, repeated, rowFault, faulty, check}
 use Rattle.bitml.specs.Rule.{Verdict, liquid, frozen, verdict, stuck, rows, rowFor, reached, make}
 use Rattle.bitml.proofs.Lists.{length-up}
-use Rattle.bitml.specs.Answers.{rowLine, liquidLine, frozenLine, liquidBy, madeLines}
+use Rattle.bitml.specs.Answers.{rowLine, liquidLine, frozenLine, refused, printed, liquidBy, making, madeBy, checkedBy, answer}
 use Rattle.tables.specs.Entries.{held, people}
 use Rattle.tables.specs.SheetOf.{sheetIn}
 use Rattle.tables.proofs.SheetOf.{keep-le, root-is, nodes-are}
@@ -27,9 +27,8 @@ use Rattle.texts.specs.Wrote.{Wrote}
 use Rattle.texts.proofs.Writing.{wrote-then}
 use Rattle.texts.proofs.Texts.{lines-append, one-line}
 use Rattle.replies.specs.declared.Reply.{Reply}
-use Rattle.replies.specs.Answer.{Gives, refused, printed}
+use Rattle.replies.specs.Answer.{Gives}
 use Rattle.replies.proofs.Giving.{gives-printed, gives-refused}
-use Rattle.verdicts.specs.Judged.{rowsOfVerdict, madeFor, faultFor}
 
 abbrev told : ℕ → Reply
 told k = record { number = 0; line = 0; field = 0; length = k }
@@ -49,27 +48,26 @@ module _ (s : Sheet) (p : ℕ) (first : defAt s 0 .root ≡ 0) where
   unfolding linesText
   liquid-line R k z b w = subst (λ xs. Wrote z 0 xs b k) (ap lineText (line-is R) ∙ sym (one-line (liquidBy s p R))) w
 
-  made-lines : (R : List Row) → linesText (map rowLine R) ++ linesText (liquidBy s p R ∷ []) ≡ linesText (madeLines s p (liquid R))
-  unfolding madeLines
+  made-lines : (R : List Row) → linesText (map rowLine R) ++ linesText (liquidBy s p R ∷ []) ≡ linesText (map rowLine R ++ (liquidBy s p R ∷ []))
   made-lines R = sym (lines-append (map rowLine R) (liquidBy s p R ∷ []))
 
   module _ (n m : ℕ) (u z : List ℕ) (clear : z ≡ replicate m 0) where
     liquid-gives : (R : List Row) (b b′ : List ℕ) (e k count rank : ℕ) → 3 * length R ≤ n → Liquid count rank ≡ answerOf (liquid R) → u ≡ bufferOf n (liquid R)
         → Wrote z 0 (linesText (map rowLine (rowsOf count u))) b e → Wrote b e (lineText (liquidLine p count rank)) b′ k
-        → Gives (printed (madeLines s p (liquid R)) R) n m (told k) u b′
-    unfolding answerOf bufferOf linesText
+        → Gives (madeBy s p (liquid R)) n m (told k) u b′
+    unfolding answerOf bufferOf linesText madeBy
     liquid-gives R b b′ e k count rank h l f w x =
         let c : count ≡ length R = cc in
         let r : rank ≡ rankOf R 0 = cc in
         let g : rowsOf count u ≡ R = ap₂ rowsOf c f ∙ rows-filled n R h in
         let y : lineText (liquidLine p count rank) ≡ linesText (liquidBy s p R ∷ []) = ap₂ (λ i j. lineText (liquidLine p i j)) c r ∙ ap lineText (line-is R) ∙ sym (one-line (liquidBy s p R)) in
-        gives-printed (madeLines s p (liquid R)) R n m k u z b′ clear
+        gives-printed (map rowLine R ++ (liquidBy s p R ∷ [])) R n m k u z b′ clear
         (subst (λ xs. Wrote z 0 xs b′ k) (ap₂ (λ Q xs. linesText (map rowLine Q) ++ xs) g y ∙ made-lines R) (wrote-then w x))
         f
 
     frozen-gives : (x : ℕ) (b : List ℕ) (k node : ℕ) → Frozen node ≡ answerOf (frozen x) → u ≡ bufferOf n (frozen x)
-        → Wrote z 0 (lineText (frozenLine p node)) b k → Gives (printed (madeLines s p (frozen x)) []) n m (told k) u b
-    unfolding answerOf bufferOf madeLines linesText
+        → Wrote z 0 (lineText (frozenLine p node)) b k → Gives (madeBy s p (frozen x)) n m (told k) u b
+    unfolding answerOf bufferOf madeBy linesText
     frozen-gives x b k node l f w =
         let c : node ≡ x = cc in
         gives-printed (frozenLine p x ∷ []) [] n m k u z b clear
@@ -79,33 +77,33 @@ module _ (s : Sheet) (p : ℕ) (first : defAt s 0 .root ≡ 0) where
     -- by the verdict that was found
     verdict-liquid : (v : Verdict) (b b′ : List ℕ) (e k count rank : ℕ) → 3 * count ≤ n → Liquid count rank ≡ answerOf v → u ≡ bufferOf n v
         → Wrote z 0 (linesText (map rowLine (rowsOf count u))) b e → Wrote b e (lineText (liquidLine p count rank)) b′ k
-        → Gives (printed (madeLines s p v) (rowsOfVerdict v)) n m (told k) u b′
-    unfolding rowsOfVerdict answerOf
+        → Gives (madeBy s p v) n m (told k) u b′
+    unfolding answerOf
     verdict-liquid (liquid R) b b′ e k count rank h l f w x =
         let c : count ≡ length R = cc in
         liquid-gives R b b′ e k count rank (omega arith) l f w x
     verdict-liquid (frozen y) b b′ e k count rank h l f w x = let q : _≡_ {A = ℕ} 0 1 = cc in absurd (omega arith)
 
     verdict-frozen : (v : Verdict) (b : List ℕ) (k node : ℕ) → Frozen node ≡ answerOf v → u ≡ bufferOf n v
-        → Wrote z 0 (lineText (frozenLine p node)) b k → Gives (printed (madeLines s p v) (rowsOfVerdict v)) n m (told k) u b
-    unfolding rowsOfVerdict answerOf
+        → Wrote z 0 (lineText (frozenLine p node)) b k → Gives (madeBy s p v) n m (told k) u b
+    unfolding answerOf
     verdict-frozen (liquid R) b k node l f w = let q : _≡_ {A = ℕ} 0 1 = cc in absurd (omega arith)
     verdict-frozen (frozen x) b k node l f w = frozen-gives x b k node l f w
 
     pub make-liquid : (b b′ : List ℕ) (e k count rank : ℕ) → 3 * count ≤ n → Liquid count rank ≡ answerOf (make s p) → u ≡ bufferOf n (make s p)
         → Wrote z 0 (linesText (map rowLine (rowsOf count u))) b e → Wrote b e (lineText (liquidLine p count rank)) b′ k
-        → Gives (madeFor s p) n m (told k) u b′
-    unfolding madeFor
+        → Gives (answer (making s p)) n m (told k) u b′
+    unfolding answer
     make-liquid = verdict-liquid (make s p)
 
     pub make-frozen : (b : List ℕ) (k node : ℕ) → Frozen node ≡ answerOf (make s p) → u ≡ bufferOf n (make s p)
-        → Wrote z 0 (lineText (frozenLine p node)) b k → Gives (madeFor s p) n m (told k) u b
-    unfolding madeFor
+        → Wrote z 0 (lineText (frozenLine p node)) b k → Gives (answer (making s p)) n m (told k) u b
+    unfolding answer
     make-frozen = verdict-frozen (make s p)
 
     pub check-liquid : (R : List Row) (f : Fault) (b : List ℕ) (k count rank : ℕ) → checked.Liquid count rank ≡ answerOfRows R f → u ≡ bufferOfRows n R f
-        → Wrote z 0 (lineText (liquidLine p count rank)) b k → Gives (faultFor s p R f) n m (told k) u b
-    unfolding faultFor answerOfRows bufferOfRows
+        → Wrote z 0 (lineText (liquidLine p count rank)) b k → Gives (checkedBy s p R f) n m (told k) u b
+    unfolding checkedBy answerOfRows bufferOfRows
     check-liquid R f b k count rank l g w = go (eqb (f .number) 0) l g
       where
         go : (x : Bool) → checked.Liquid count rank ≡ cond x (checked.Liquid (length R) (rankOf R 0)) (checked.Refused (f .number) (f .place))
@@ -120,8 +118,8 @@ module _ (s : Sheet) (p : ℕ) (first : defAt s 0 .root ≡ 0) where
 
     -- a refusal is told at the line of its row
     pub check-refused : (R : List Row) (f : Fault) (number place defs : ℕ) → checked.Refused number place ≡ answerOfRows R f → u ≡ bufferOfRows n R f → defs ≡ length (s .defs)
-        → Gives (faultFor s p R f) n m (record { number = number; line = defs + 2 + place; field = 0; length = 0 }) u z
-    unfolding faultFor answerOfRows bufferOfRows
+        → Gives (checkedBy s p R f) n m (record { number = number; line = defs + 2 + place; field = 0; length = 0 }) u z
+    unfolding checkedBy answerOfRows bufferOfRows
     check-refused R f number place defs l g d = go (eqb (f .number) 0) l g
       where
         go : (x : Bool) → checked.Refused number place ≡ cond x (checked.Liquid (length R) (rankOf R 0)) (checked.Refused (f .number) (f .place))

@@ -16,19 +16,19 @@ use texts::put_rows;
 ghost use mathlib.Core.Path.{_≡_};
 ghost use Prim.Native.Nat.{_≤_, _<_};
 ghost use lib.ListN.{length};
+ghost use Rattle.bitml.specs.Answers.{making, checking, answer};
 ghost use Rattle.tables.specs.Entries.{people};
 ghost use Rattle.tables.specs.SheetOf.{sheetIn};
 ghost use Rattle.requests.specs.Rows.{rowsOf};
 ghost use Rattle.sheets.specs.Ready.{Ready};
 ghost use Rattle.rows.specs.Given.{RowsFit};
 ghost use Rattle.replies.specs.Answer.{Gives, leastText};
-ghost use Rattle.verdicts.specs.Judged.{madeFor, checkedFor};
 
 // `make`,p: the rows into the row buffer and, with the last line, into the text.
 pub fn make_for(t: &[usize], p: usize, rows: &mut [usize], text: &mut [u8]) -> Reply
     requires { ⌜ Ready (now t) ⌝ }
     requires { ⌜ (p < people (now t)) × (1536 ≤ length (now rows)) × (leastText ≤ length (now text)) ⌝ }
-    ensures { λ r. ⌜ Gives (madeFor (sheetIn (now (t .entry))) p) (length (now (rows .entry))) (length (now (text .entry))) r (now (rows .exit)) (now (text .exit)) ⌝ }
+    ensures { λ r. ⌜ Gives (answer (making (sheetIn (now (t .entry))) p)) (length (now (rows .entry))) (length (now (text .entry))) r (now (rows .exit)) (now (text .exit)) ⌝ }
 {
     let mut x = [0usize; INDEX];
     index(t, &mut x);
@@ -52,7 +52,7 @@ pub fn check_for(t: &[usize], p: usize, n: usize, rows: &mut [usize], text: &mut
     requires { ⌜ Ready (now t) ⌝ }
     requires { ⌜ (p < people (now t)) × (leastText ≤ length (now text)) ⌝ }
     requires { ⌜ RowsFit (now t) (now rows) n ⌝ }
-    ensures { λ r. ⌜ Gives (checkedFor (sheetIn (now (t .entry))) p (rowsOf n (now (rows .entry)))) (length (now (rows .entry))) (length (now (text .entry))) r (now (rows .exit)) (now (text .exit)) ⌝ }
+    ensures { λ r. ⌜ Gives (answer (checking (sheetIn (now (t .entry))) p (rowsOf n (now (rows .entry))))) (length (now (rows .entry))) (length (now (text .entry))) r (now (rows .exit)) (now (text .exit)) ⌝ }
 {
     let mut x = [0usize; INDEX];
     index(t, &mut x);

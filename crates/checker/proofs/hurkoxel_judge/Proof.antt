@@ -53,7 +53,8 @@ use Rattle.lent.proofs.emit_rows.Symbol as emit-def
 use Rattle.lent.proofs.emit_rows.Symbol.{name as #lent·emit-rows}
 use Rattle.lent.proofs.emit_rows.Met as emit-thm
 use Rattle.replies.specs.declared.Reply.{Reply}
-use Rattle.replies.specs.Answer.{Answer, replyOf, numbersOf, bytesOf}
+use Rattle.bitml.specs.Answers.{Answer}
+use Rattle.replies.specs.Answer.{replyOf, numbersOf, bytesOf}
 use Rattle.replies.proofs.Reply as R
 use Rattle.replies.proofs.Reply.Laws as R′
 use Rattle.checker.specs.Entry.{answerTo, placesOf}

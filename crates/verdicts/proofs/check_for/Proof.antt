@@ -2,13 +2,13 @@ use mathlib.Core.Path.{sym, _∙_}
 use native.Mathlib.Omega.{arith}
 use lib.ListN.{length}
 use Rattle.bitml.specs.Rows.{check}
+use Rattle.bitml.specs.Answers.{answer}
 use Rattle.tables.specs.Entries.{held, people}
 use Rattle.tables.specs.SheetOf.{sheetIn}
 use Rattle.tables.proofs.SheetOf.{defs-are}
 use Rattle.requests.specs.Rows.{rowsOf}
 use Rattle.requests.proofs.Laws.{rows-length}
 use Rattle.replies.proofs.Giving.{gives-as}
-use Rattle.verdicts.specs.Judged.{checkedFor}
 use Rattle.verdicts.proofs.Verdicts.{root-first, check-liquid, check-refused, place-few}
 use borrow.Author.Needs.{needs}
 use Rattle.verdicts.proofs.check_for.Statement.{statement}
@@ -78,7 +78,7 @@ same-length-2 c = search needs
 
 -- src/lib.rt:51:1
 returns : tie.Need-returns
-unfolding checkedFor
+unfolding answer
 returns c = let R = rowsOf (c .before .before .before .before .before .before .before .before .before .before .before .before .before .before .before .before .before .before .before .before .before .before .before .args .n) (c .before .before .before .before .before .before .before .before .before .before .before .before .before .before .before .before .before .before .before .before .before .before .before .args .rows .now) in let S = sheetIn (c .before .before .before .before .before .before .before .before .before .before .before .before .before .before .before .before .before .before .before .before .before .before .before .args .t .now) in
     gives-as (c .answered .ensures)
     (check-liquid S (c .before .before .before .before .before .before .before .before .before .before .before .before .before .before .before .before .before .before .before .before .before .before .before .args .p) (root-first (c .before .before .before .before .before .before .before .before .before .before .before .before .before .before .before .before .before .before .before .before .before .before .before .args .t .now) (c .before .before .before .before .before .before .before .before .before .before .before .before .before .before .before .before .before .before .before .before .before .before .before .pre .0)) (length (c .before .before .before .before .before .before .before .before .before .before .before .before .before .before .before .before .before .before .before .before .before .before .before .args .rows .now)) (length (c .before .before .before .before .before .before .before .before .before .before .before .before .before .before .before .before .before .before .before .before .before .before .before .args .text .now)) _ _ (c .before .before .before .before .before .before .before .before .before .before .before .before .before .before .before .clear .ensures) R (check S (c .before .before .before .before .before .before .before .before .before .before .before .before .before .before .before .before .before .before .before .before .before .before .before .args .p) R) _ _ _ _ (sym (c .before .before .before .before .before .before .v .given .1) ∙ c .before .before .before .before .before .before .before .before .before .before .check-rows .ensures .0) (c .before .before .before .before .before .before .before .before .before .before .check-rows .ensures .1) (c .before .before .before .put-liquid .ensures))
@@ -93,7 +93,7 @@ same-length-4 c = search needs
 
 -- src/lib.rt:51:1
 returns-2 : tie.Need-returns-2
-unfolding checkedFor
+unfolding answer
 returns-2 c = let R = rowsOf (c .before .before .before .before .before .before .before .before .before .before .before .before .before .before .before .before .before .before .before .before .args .n) (c .before .before .before .before .before .before .before .before .before .before .before .before .before .before .before .before .before .before .before .before .args .rows .now) in let S = sheetIn (c .before .before .before .before .before .before .before .before .before .before .before .before .before .before .before .before .before .before .before .before .args .t .now) in
     gives-as (c .declined .ensures)
     (check-refused S (c .before .before .before .before .before .before .before .before .before .before .before .before .before .before .before .before .before .before .before .before .args .p) (root-first (c .before .before .before .before .before .before .before .before .before .before .before .before .before .before .before .before .before .before .before .before .args .t .now) (c .before .before .before .before .before .before .before .before .before .before .before .before .before .before .before .before .before .before .before .before .pre .0)) (length (c .before .before .before .before .before .before .before .before .before .before .before .before .before .before .before .before .before .before .before .before .args .rows .now)) (length (c .before .before .before .before .before .before .before .before .before .before .before .before .before .before .before .before .before .before .before .before .args .text .now)) _ _ (c .before .before .before .before .before .before .before .before .before .before .before .before .clear .ensures) R (check S (c .before .before .before .before .before .before .before .before .before .before .before .before .before .before .before .before .before .before .before .before .args .p) R) _ _ _ (sym (c .before .before .before .v2 .given .1) ∙ c .before .before .before .before .before .before .before .check-rows .ensures .0) (c .before .before .before .before .before .before .before .check-rows .ensures .1) (c .before .def-total .ensures ∙ sym (defs-are (people (c .before .before .before .before .before .before .before .before .before .before .before .before .before .before .before .before .before .before .before .before .args .t .now)) (held (c .before .before .before .before .before .before .before .before .before .before .before .before .before .before .before .before .before .before .before .before .args .t .now)))))

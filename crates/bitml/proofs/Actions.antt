@@ -4,12 +4,12 @@ use Prim.Native.Nat.{ℕ, _+_}
 use mathlib.Core.Bool.{true, false, not, false≢true}
 use mathlib.Core.List.{List, [], _∷_, map}
 use Rattle.bitml.specs.Lists.{sum, All, nil, cons}
-use Rattle.bitml.specs.Sheet.{Sheet, Part, Action, withdraw, split, reveal, renewAs, defAt, parts, Cond, always, both, neg, equal, less, holds}
-use Rattle.bitml.specs.Runs.{next, ownAction, isAlways}
+use Rattle.bitml.specs.Sheet.{Sheet, Part, Branch, Action, withdraw, split, reveal, renewAs, nodeAt, defAt, parts, Cond, always, both, neg, equal, less, holds}
+use Rattle.bitml.specs.Runs.{next, ownAction, own, isAlways}
 use Rattle.bitml.specs.Rows.{Row, rankOf}
 use Rattle.bitml.specs.Ledger.{Contract, newContract, isRenewal, renewedAs, splitting, making}
 use Rattle.bitml.specs.Liquidity.{liveRank}
-use Rattle.bitml.proofs.Lists.{all-head, all-tail}
+use Rattle.bitml.proofs.Lists.{and-r, all-head, all-tail}
 
 pub renewal-is : (a : Action) → isRenewal a ≡ true → a ≡ renewAs (renewedAs a)
 renewal-is (withdraw p) e = absurd (false≢true e)
@@ -31,6 +31,10 @@ own-not-renewal s p n (withdraw q) e = refl
 own-not-renewal s p n (split qs) e = refl
 own-not-renewal s p n (reveal js c m) e = refl
 own-not-renewal s p n (renewAs d) e = e
+
+-- so what takes the node's place by an own branch are its contracts
+pub own-parts : (s : Sheet) (p n : ℕ) (br : Branch) → own s p n br ≡ true → next s (br .action) ≡ parts (br .action)
+own-parts s p n br e = parts-next s (br .action) (own-not-renewal s p (nodeAt s n .definition) (br .action) (and-r _ _ e))
 
 pub always-holds : (v : ℕ → ℕ) (c : Cond) → isAlways c ≡ true → holds v c ≡ true
 always-holds v always e = refl

@@ -4,8 +4,9 @@ use Rattle.bitml.proofs.Trees.{exit-is-tree}
 use Rattle.bitml.proofs.Exits.{ranked-exit, exit-ranked}
 use Rattle.bitml.proofs.Best.{rank-is-best}
 use Rattle.bitml.proofs.Reach.{reached-sound, reached-complete}
-use Rattle.bitml.proofs.Checked.{check-is-accepted}
+use Rattle.bitml.proofs.Checked.{check-is-accepted, check-is-fault}
 use Rattle.bitml.proofs.Published.{make-is, published}
+use Rattle.bitml.proofs.Ruling.{make-is-published}
 use Rattle.bitml.proofs.Liquidity.{liquidity}
 
 pub demands : Demands
@@ -16,7 +17,9 @@ demands =
       rank-is-best = rank-is-best;
       reached-is-run = λ s wf n. (reached-sound s n, reached-complete s wf n);
       verdict = λ s wf p. make-is s p wf;
+      make-is-published = make-is-published;
       check-is-accepted = check-is-accepted;
+      check-is-fault = check-is-fault;
       liquidity = liquidity;
       published = λ s wf p. published s p wf;
     }

@@ -15,7 +15,7 @@ use Rattle.bitml.specs.Sheet.{Sheet, Node, branchesAt, branchAt, nodeAt,
 use Rattle.bitml.specs.Runs.{OwnStep, ownStep, Run, done, more, Exit, next, own}
 use Rattle.bitml.specs.Promises.{WellFormed}
 use Rattle.bitml.specs.Rule.{Choice, noChoice, costOf, cost, better, choose, choices, choiceAt, rankAt, candidates}
-use Rattle.bitml.proofs.Actions.{parts-next, own-not-renewal}
+use Rattle.bitml.proofs.Actions.{own-parts}
 use Rattle.bitml.proofs.Lists.{and-l, and-r, and-i, all-head, all-tail, all-append, all-left, all-right, all-of, all-mem, map-cong, every-map, map-every, mem-le-sum, in-range, mem-up, up-mem}
 
 -- ---- what a cost says
@@ -198,7 +198,7 @@ module _ (s : Sheet) (wf : WellFormed s) (p : ℕ) where
       exit-all s p (parts a) (all-mem _ _ λ m hm. rank-exit k m (all-of (c .served) hm)
       (omega (arith, mem-le-sum (rankAt s p) (parts a) hm, c .rank, hk))) in
       let r′ : Run (OwnStep s p) (next s a ++ []) [] =
-      rw (append-nil, parts-next s a (own-not-renewal s p (nodeAt s n .definition) a (and-r _ _ (c .mine)))) r in
+      rw (append-nil, own-parts s p n (branchAt s n b) (c .mine)) r in
       more (ownStep [] [] n b (c .there) (c .mine)) r′
 
   -- a step to nodes with ranks is from nodes with ranks
@@ -207,7 +207,7 @@ module _ (s : Sheet) (wf : WellFormed s) (p : ℕ) where
   step-back (ownStep xs ys n b hb mine) a =
       let act = branchAt s n b .action in
       let q = all-right xs (next s act) (all-left (xs ++ next s act) ys a) in
-      let q′ = subst (All (λ m. 0 < rankAt s p m)) (parts-next s act (own-not-renewal s p (nodeAt s n .definition) act (and-r _ _ mine))) q in
+      let q′ = subst (All (λ m. 0 < rankAt s p m)) (own-parts s p n (branchAt s n b) mine) q in
       let z = mine-cost (own s p n (branchAt s n b)) (map (rankAt s p) (parts act)) mine
       (map-every (ltb 0) (rankAt s p) (parts act) (all-mem _ _ λ m hm. lt-ltb _ _ (all-of q′ hm))) in
       let w = choose-least (cost s p n (rankAt s p)) (candidates (nodeAt s n)) (in-candidates n b hb) (omega arith) in

@@ -26,7 +26,7 @@ pub record Served (s : Sheet) (p : ℕ) (R : List Row) (n k : ℕ) : Type 0 wher
   pub mine : own s p n (branchAt s n branch) ≡ true
   pub rank : suc (sum (map (rankOf R) (parts (branchAt s n branch .action)))) ≤ k
 
-row-find : (Q : Row → Type 0) (R : List Row) (n : ℕ) → All Q R → has R n ≡ true → (r : Row) × Q r × (r .node ≡ n) × (rankOf R n ≡ r .rank)
+pub row-find : (Q : Row → Type 0) (R : List Row) (n : ℕ) → All Q R → has R n ≡ true → (r : Row) × Q r × (r .node ≡ n) × (rankOf R n ≡ r .rank)
 unfolding _or_
 row-find Q [] n a h = absurd (false≢true h)
 row-find Q (r ∷ R) n a h = go (eqb (r .node) n) refl (row-find Q R n (all-tail a))
@@ -76,7 +76,7 @@ module _ (s : Sheet) (wf : WellFormed s) (p : ℕ) (R : List Row) (ok : Accepted
   served n h =
       let w = row-find (Holds s p R) R n (ok .each) h in
       let r = w .0 in
-      let v : Served s p R (r .node) (r .rank) = record { branch = r .branch; closed = w .1 .closed; there = w .1 .there; mine = w .1 .mine; rank = w .1 .enough } in
+      let v : Served s p R (r .node) (r .rank) = record { branch = r .branch; closed = w .1 .closed; there = w .1 .mine .0; mine = w .1 .mine .1; rank = w .1 .enough } in
       subst₂ (λ m k. Served s p R m k) (w .2) (sym (w .3)) v
 
   inv-start : (vs : List (Option ℕ)) → Inv s R (stipulated s vs)

@@ -11,6 +11,7 @@ pub mod Leaving
 pub mod Liquidity
 pub mod Checked
 pub mod Published
+pub mod Ruling
 pub mod Demands
 pub mod Stars
 pub mod Formed

@@ -96,11 +96,6 @@ unfolding ask
 ask-test true k rest e = refl
 ask-test false k rest e = absurd (suc-ne-zero k e)
 
-pub ask-rest : (t : Bool) (k rest : ℕ) → ask t (suc k) rest ≡ 0 → rest ≡ 0
-unfolding ask
-ask-rest true k rest e = e
-ask-rest false k rest e = absurd (suc-ne-zero k e)
-
 pub ask-no : (t : Bool) (k rest : ℕ) → t ≡ false → ask t k rest ≡ k
 unfolding ask
 ask-no t k rest e = rw e
@@ -264,6 +259,24 @@ module _ {A : Type 0} where
   pub every-by-mem : (t : A → Bool) (xs : List A) → ((x : A) → List·Memᴰ x xs → t x ≡ true) → every t xs ≡ true
   every-by-mem t [] f = refl
   every-by-mem t (x ∷ xs) f = and-i _ _ (f x (List·Memᴰ·head refl)) (every-by-mem t xs (λ y m. f y (List·Memᴰ·tail m)))
+
+  -- where a test fails
+  pub every-not-at : (t : A → Bool) (xs : List A) (d : A) → every t xs ≡ false → (i : ℕ) × (i < length xs) × (t (getD xs i d) ≡ false)
+  every-not-at t [] d e = absurd (true≢false e)
+  every-not-at t (x ∷ xs) d e = go (t x) refl (every-not-at t xs d)
+    where
+      go : (b : Bool) → t x ≡ b → (every t xs ≡ false → (i : ℕ) × (i < length xs) × (t (getD xs i d) ≡ false))
+          → (i : ℕ) × (i < suc (length xs)) × (t (getD (x ∷ xs) i d) ≡ false)
+      go false q f = (0, omega arith, q)
+      go true q f = let w = f (sym (and-true _ _ q) ∙ e) in (suc (w .0), omega (arith, w .1), w .2)
+
+  pub every-not-mem : (t : A → Bool) (xs : List A) → every t xs ≡ false → (y : A) × List·Memᴰ y xs × (t y ≡ false)
+  every-not-mem t [] e = absurd (true≢false e)
+  every-not-mem t (x ∷ xs) e = go (t x) refl (every-not-mem t xs)
+    where
+      go : (b : Bool) → t x ≡ b → (every t xs ≡ false → (y : A) × List·Memᴰ y xs × (t y ≡ false)) → (y : A) × List·Memᴰ y (x ∷ xs) × (t y ≡ false)
+      go false q f = (x, List·Memᴰ·head refl, q)
+      go true q f = let w = f (sym (and-true _ _ q) ∙ e) in (w .0, List·Memᴰ·tail (w .1), w .2)
 
   pub keep-all : (t : A → Bool) (xs : List A) → All (λ x. t x ≡ true) (keep t xs)
   keep-all t [] = nil

@@ -10,17 +10,22 @@ use lib.ListN.{length}
 use lib.Dec.{eqb}
 use borrow.Author.Tests.{eqb-true, eqb-false, eq-eqb}
 use Rattle.bitml.specs.Lists.{_&_, keep, below, upFrom, All}
-use Rattle.bitml.specs.Sheet.{Sheet, branchAt, nodeAt, parts}
-use Rattle.bitml.specs.Runs.{Liquid}
-use Rattle.bitml.specs.Rows.{has, rankOf, Distinct, empty, apart, Holds, Accepted, check}
+use Rattle.bitml.specs.Sheet.{Sheet, branchesAt, branchAt, parts}
+use Rattle.bitml.specs.Runs.{own, Reached, Liquid}
+use Rattle.bitml.specs.Rows.{Row, has, rankOf, Distinct, empty, apart, Holds, Accepted, check}
 use Rattle.bitml.specs.Rule.{choiceAt, rankAt, reached, rowFor, rows, stuck, liquid, frozen, verdict, make}
 use Rattle.bitml.specs.Promises.{WellFormed}
-use Rattle.bitml.specs.Demands.{Frozen}
-use Rattle.bitml.proofs.Lists.{and-l, and-r, and-i, all-imp, all-map, map-cong, mem-any, keep-all, keep-imp, mem-keep, mem-up, up-mem, keep-first}
-use Rattle.bitml.proofs.Actions.{parts-next, own-not-renewal}
+use Rattle.bitml.specs.Demands.{Frozen, Best, Rising, start, above, Published}
+use Rattle.bitml.proofs.Lists.{and-l, and-r, and-i, all-imp, all-map, all-of, map-cong, any-mem, mem-any, keep-all, keep-imp, mem-keep, mem-up, up-mem, keep-first}
+use Rattle.bitml.proofs.Actions.{own-parts}
 use Rattle.bitml.proofs.Exits.{chosen, ranked-exit, exit-ranked}
 use Rattle.bitml.proofs.Reach.{reached-sound, reached-complete, branch-reached, reached-in, root-reached}
+use Rattle.bitml.proofs.Best.{rank-is-best}
 use Rattle.bitml.proofs.Checked.{check-is-accepted}
+
+rising-distinct : {R : List Row} → Rising R → Distinct R
+rising-distinct start = empty
+rising-distinct (above {r = r} a u) = apart (all-imp (λ q h e. let h′ : r .node < q .node = h in let e′ : r .node ≡ q .node = e in omega arith) a) (rising-distinct u)
 
 module _ (s : Sheet) (p : ℕ) where
   -- ---- rows of numbered nodes
@@ -43,14 +48,14 @@ module _ (s : Sheet) (p : ℕ) where
   unfolding rowFor
   rows-from t k n = all-map (rowFor s p) (keep-imp t (upFrom k n) (all-imp (λ m h. h .0) (up-mem k n)))
 
-  rows-distinct : (t : ℕ → Bool) (k n : ℕ) → Distinct (map (rowFor s p) (keep t (upFrom k n)))
+  rows-rising : (t : ℕ → Bool) (k n : ℕ) → Rising (map (rowFor s p) (keep t (upFrom k n)))
   unfolding rowFor
-  rows-distinct t k zero = empty
-  rows-distinct t k (suc n) = go (t k) (rows-distinct t (suc k) n)
+  rows-rising t k zero = start
+  rows-rising t k (suc n) = go (t k) (rows-rising t (suc k) n)
     where
-      go : (b : Bool) → Distinct (map (rowFor s p) (keep t (upFrom (suc k) n)))
-          → Distinct (map (rowFor s p) (cond b (k ∷ keep t (upFrom (suc k) n)) (keep t (upFrom (suc k) n))))
-      go true d = apart {r = rowFor s p k} (all-imp (λ q h e. let h′ : suc k ≤ q .node = h in let e′ : k ≡ q .node = e in omega arith) (rows-from t (suc k) n)) d
+      go : (b : Bool) → Rising (map (rowFor s p) (keep t (upFrom (suc k) n)))
+          → Rising (map (rowFor s p) (cond b (k ∷ keep t (upFrom (suc k) n)) (keep t (upFrom (suc k) n))))
+      go true d = above {r = rowFor s p k} (all-imp (λ q h. let h′ : suc k ≤ q .node = h in omega arith) (rows-from t (suc k) n)) d
       go false d = d
 
   -- ---- the published rows
@@ -62,19 +67,24 @@ module _ (s : Sheet) (p : ℕ) where
     listed : (n : ℕ) → reached s n ≡ true → List·Memᴰ n ns
     listed n e = mem-keep (reached s) (below (length (s .nodes))) (mem-up 0 (length (s .nodes)) n (omega arith) (omega (arith, reached-in s n e))) e
 
+    -- an own branch of a reached node costs by the rows what it costs by the ranks
+    parts-ranked : (n b : ℕ) → reached s n ≡ true → b < length (branchesAt s n) → own s p n (branchAt s n b) ≡ true
+        → map (rankOf (rows s p)) (parts (branchAt s n b .action)) ≡ map (rankAt s p) (parts (branchAt s n b .action))
+    unfolding rows
+    parts-ranked n b e hb mine =
+        map-cong _ _ (parts (branchAt s n b .action)) λ m hm.
+        rank-row ns m (listed m (branch-reached s wf n b m hb (subst (List·Memᴰ m) (sym (own-parts s p n (branchAt s n b) mine)) hm) e))
+
     row-holds : (n : ℕ) → reached s n ≡ true → 0 < rankAt s p n → Holds s p (rows s p) (rowFor s p n)
     unfolding rows rowFor
     row-holds n e h =
         let c = chosen s wf p n h in
         let b = choiceAt s p n .branch in
         let a = branchAt s n b .action in
-        let q : map (rankOf (rows s p)) (parts a) ≡ map (rankAt s p) (parts a) = map-cong _ _ (parts a) λ m hm.
-        rank-row ns m (listed m (branch-reached s wf n b m (c .there)
-        (subst (List·Memᴰ m) (sym (parts-next s a (own-not-renewal s p (nodeAt s n .definition) a (and-r _ _ (c .mine))))) hm) e)) in
+        let q : map (rankOf (rows s p)) (parts a) ≡ map (rankAt s p) (parts a) = parts-ranked n b e (c .there) (c .mine) in
         record {
           closed = λ b m hb hm. has-row ns m (listed m (branch-reached s wf n b m hb hm e));
-          there = c .there;
-          mine = c .mine;
+          mine = (c .there, c .mine);
           enough = rw q (omega (arith, c .rank));
         }
 
@@ -82,9 +92,38 @@ module _ (s : Sheet) (p : ℕ) where
     unfolding Liquid rows
     rows-accepted f =
         record {
-          distinct = rows-distinct (reached s) 0 (length (s .nodes));
+          distinct = rising-distinct (rows-rising (reached s) 0 (length (s .nodes)));
           root = has-row ns _ (listed _ (root-reached s wf));
           each = all-map (rowFor s p) (all-imp (λ n e. row-holds n e (exit-ranked s wf p n (f n (reached-sound s n e)))) (keep-all (reached s) (below (length (s .nodes)))));
+        }
+
+    row-best : (n : ℕ) → reached s n ≡ true → Liquid s p → Best s p (rankOf (rows s p)) (rowFor s p n)
+    unfolding rowFor Liquid
+    row-best n e f =
+        let k = rank-is-best s wf p n (f n (reached-sound s n e)) in
+        record {
+          serves = k .serves;
+          rank = rw (parts-ranked n (choiceAt s p n .branch) e (k .serves .there) (k .serves .mine)) (k .rank);
+          least = λ b v. rw (parts-ranked n b e (v .there) (v .mine)) (k .least b v);
+          lowest = λ b v h. rw (parts-ranked n b e (v .there) (v .mine)) (k .lowest b v h);
+        }
+
+    rows-reached : (n : ℕ) → has (rows s p) n ≡ true → Reached s n
+    unfolding rows rowFor
+    rows-reached n h =
+        let w = any-mem (λ r. eqb (r .node) n) (rows s p) h in
+        let a : All (λ r. reached s (r .node) ≡ true) (rows s p) = all-map (rowFor s p) (keep-all (reached s) (below (length (s .nodes)))) in
+        reached-sound s n (subst (λ m. reached s m ≡ true) (eqb-true (w .0 .node) n (w .2)) (all-of a (w .1)))
+
+    -- "The published rule"
+    pub rows-published : Liquid s p → Published s p (rows s p)
+    unfolding rows
+    rows-published f =
+        record {
+          reach = λ n. (rows-reached n, λ r. has-row ns n (listed n (reached-complete s wf n r)));
+          once = rising-distinct (rows-rising (reached s) 0 (length (s .nodes)));
+          rising = rows-rising (reached s) 0 (length (s .nodes));
+          each = all-map (rowFor s p) (all-imp (λ n e. row-best n e f) (keep-all (reached s) (below (length (s .nodes)))));
         }
 
     -- ---- what the list of stuck nodes says

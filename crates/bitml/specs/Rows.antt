@@ -1,8 +1,8 @@
 -- "Rows": when rows are accepted, and the refusals 10 to 13 in their order and place. Assumes nothing.
 use mathlib.Core.Path.{_≡_}
 use Prim.Native.Nat.{ℕ, suc, _+_, _≤_, _<_}
-use mathlib.Core.Bool.{Bool, true, cond}
-use mathlib.Core.List.{List, [], _∷_, map, List·Memᴰ}
+use mathlib.Core.Bool.{Bool, true, false, cond}
+use mathlib.Core.List.{List, [], _∷_, _++_, map, List·Memᴰ}
 use lib.ListN.{length}
 use lib.Dec.{eqb, leb}
 use Rattle.bitml.specs.Lists.{_&_, ask, sum, every, any, All}
@@ -34,12 +34,18 @@ pub data Distinct : List Row → Type 0 where
   empty : Distinct []
   apart : {r : Row} {R : List Row} → All (λ q. r .node ≡ q .node → ⊥) R → Distinct R → Distinct (r ∷ R)
 
--- "for each row, all contracts of all its node's branches, and the roots they renew as, have rows; its branch is own to P;
--- its rank is at least .."
+-- "for each row, all contracts of all its node's branches, and the roots they renew as, have rows"
+abbrev pub Closed : Sheet → List Row → Row → Type 0
+Closed s R r = (b m : ℕ) → b < length (branchesAt s (r .node)) → List·Memᴰ m (next s (branchAt s (r .node) b .action)) → has R m ≡ true
+
+-- "its branch is own to P"
+abbrev pub Mine : Sheet → ℕ → Row → Type 0
+Mine s p r = (r .branch < length (branchesAt s (r .node))) × (own s p (r .node) (branchAt s (r .node) (r .branch)) ≡ true)
+
+-- "its rank is at least 1 + the sum of the ranks of the contracts in that branch"
 pub record Holds (s : Sheet) (p : ℕ) (R : List Row) (r : Row) : Type 0 where
-  pub closed : (b m : ℕ) → b < length (branchesAt s (r .node)) → List·Memᴰ m (next s (branchAt s (r .node) b .action)) → has R m ≡ true
-  pub there : r .branch < length (branchesAt s (r .node))
-  pub mine : own s p (r .node) (branchAt s (r .node) (r .branch)) ≡ true
+  pub closed : Closed s R r
+  pub mine : Mine s p r
   pub enough : leastRank R (branchAt s (r .node) (r .branch) .action) ≤ r .rank
 
 pub record Accepted (s : Sheet) (p : ℕ) (R : List Row) : Type 0 where
@@ -47,7 +53,25 @@ pub record Accepted (s : Sheet) (p : ℕ) (R : List Row) : Type 0 where
   pub root : has R (defAt s 0 .root) ≡ true
   pub each : All (Holds s p R) R
 
--- ---- `check`: 0 where the rows are accepted; else the number of the refusal, and the row's place: from 1, and 0 for the line of `check`
+-- ---- "Rows: 10 .., 11 .., then row by row 11, 12, 13": the number of a refusal and the row's place, from 1, and 0 for the line of `check`
+
+-- What refuses a row: "a needed row is missing"; else "branch not own"; else "rank too low"
+pub data Wrong (s : Sheet) (p : ℕ) (R : List Row) (r : Row) : ℕ → Type 0 where
+  missing : (b m : ℕ) → b < length (branchesAt s (r .node)) → List·Memᴰ m (next s (branchAt s (r .node) b .action)) → has R m ≡ false → Wrong s p R r 11
+  foreign : Closed s R r → (Mine s p r → ⊥) → Wrong s p R r 12
+  low : Closed s R r → Mine s p r → r .rank < leastRank R (branchAt s (r .node) (r .branch) .action) → Wrong s p R r 13
+
+pub data FaultAt (s : Sheet) (p : ℕ) (R : List Row) : ℕ → ℕ → Type 0 where
+  -- "10 over all rows (the first line whose node an earlier row has)"
+  twice : (before after : List Row) (r : Row) → R ≡ before ++ r ∷ after → Distinct before → has before (r .node) ≡ true
+      → FaultAt s p R 10 (suc (length before))
+  -- "11 for the root (line of `check`)"
+  rootless : Distinct R → has R (defAt s 0 .root) ≡ false → FaultAt s p R 11 0
+  -- "then row by row": the first that does not hold
+  row : (before after : List Row) (r : Row) (n : ℕ) → Distinct R → has R (defAt s 0 .root) ≡ true
+      → R ≡ before ++ r ∷ after → All (Holds s p R) before → Wrong s p R r n → FaultAt s p R n (suc (length before))
+
+-- ---- `check`: 0 where the rows are accepted; else the number of the refusal and its place
 
 pub record Fault : Type 0 where
   pub number : ℕ

@@ -13,11 +13,12 @@ use borrow.Author.Tests.{le-leb, lt-leb, eqb-false}
 use Rattle.bitml.specs.Lists.{_&_}
 use Rattle.bitml.specs.Sheet.{Sheet}
 use Rattle.bitml.specs.Rows as rows
-use Rattle.bitml.specs.Rows.{Row}
+use Rattle.bitml.specs.Rows.{Row, Wrong, missing, foreign, low, FaultAt, twice, rootless, row}
 use Rattle.bitml.specs.Ledger.{Event}
 use Rattle.bitml.specs.Rule.{Verdict, liquid, frozen}
 use Rattle.bitml.specs.Answers.{liquidBy, Answer, refused, printed, making, checking, playing, madeBy, checkedBy, answer}
 use Rattle.bitml.proofs.Lists.{and-no, and-false, and-i}
+use Rattle.bitml.proofs.Demands.{demands}
 use Rattle.fields.proofs.Ranges.{cond-cases}
 use Rattle.tables.specs.Entries.{Entries}
 use Rattle.tables.specs.SheetOf.{sheetOf, defEntryAt}
@@ -35,7 +36,7 @@ use Rattle.checker.specs.Entry.{answerFor, answerTo}
 use Rattle.checker.specs.Entry.{judged as judgedFrom}
 use Rattle.checker.specs.Refusals.{Why, tooLong, shortBuffers, notRead, rowsRefused, Refused, long, short, bad, judged, OfRefusals}
 use Rattle.checker.proofs.Entry.{early-long, early-rows, early-text, early-none}
-use Rattle.checker.proofs.Demands.{Numbered, check-numbered, formed}
+use Rattle.checker.proofs.Demands.{formed}
 
 -- ---- what comes before reading
 
@@ -94,6 +95,18 @@ module _ {s : List ℕ} {places text : ℕ} where
   refused-number (bad r e h) = (omega (arith, h .number .0), omega (arith, h .number .1))
   refused-number (judged r e h i) = (omega (arith, h .0), omega (arith, h .1))
 
+-- ---- the refusals of rows
+
+wrong-number : {S : Sheet} {p : ℕ} {R : List Row} {r : Row} {n : ℕ} → Wrong S p R r n → (10 ≤ n) × (n ≤ 13)
+wrong-number (missing b m h i e) = (omega arith, omega arith)
+wrong-number (foreign h i) = (omega arith, omega arith)
+wrong-number (low h i l) = (omega arith, omega arith)
+
+fault-number : {S : Sheet} {p : ℕ} {R : List Row} {n i : ℕ} → FaultAt S p R n i → (10 ≤ n) × (n ≤ 13)
+fault-number (twice before after r e h i) = (omega arith, omega arith)
+fault-number (rootless h i) = (omega arith, omega arith)
+fault-number (row before after r n h i e k w) = wrong-number w
+
 -- ---- what each last part is answered
 
 module _ (s : List ℕ) (places text : ℕ) where
@@ -115,13 +128,15 @@ module _ (s : List ℕ) (places text : ℕ) where
   played S vs es = tt
 
   checked : (K p : ℕ) (E : Entries) (R : List Row) → Room s places text → readRequest s ≡ request K E (check p R) → Reasoned (answer (checking (sheetOf K E) p R))
-  unfolding answer checkedBy Reasoned Numbered
+  unfolding answer checkedBy Reasoned
   checked K p E R r e =
       let S = sheetOf K E in
       let f = rows.check S p R in
       cond-cases Reasoned (eqb (f .number) 0) (printed (liquidBy S p R ∷ []) R) (refused (f .number) (length (S .defs) + 2 + f .place) 0) (λ z. tt) λ z.
-      let range = ⊎-elim (λ i. absurd (eqb-false _ _ z i)) (λ i. i) (check-numbered S p R) in
-      (rowsRefused, judged r e range (omega (arith, formed s K E (check p R) e .some-def)))
+      let none : f .number ≡ 0 → ⊥ = eqb-false _ _ z in
+      let some : 0 < f .number = omega arith in
+      let fault = demands .check-is-fault S p R (f .number) (f .place) .0 (some, refl) in
+      (rowsRefused, judged r e (fault-number fault) (omega (arith, formed s K E (check p R) e .some-def)))
 
   reading : Room s places text → (w : Reading) → readRequest s ≡ w → Reasoned (judgedFrom s w)
   unfolding judgedFrom answerFor Reasoned OfReadings

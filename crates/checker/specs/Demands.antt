@@ -1,18 +1,18 @@
 -- What is proved of the reply to every request: demands 2 and 3, from the bytes on. Assumes nothing.
 use mathlib.Core.Path.{_≡_}
 use mathlib.Core.Logic.{_⊎_}
-use Prim.Native.Nat.{ℕ, _≤_}
+use Prim.Native.Nat.{ℕ, _+_, _≤_}
 use mathlib.Core.Option.{Option}
 use mathlib.Core.List.{List, [], _∷_, _++_, map}
 use lib.ListN.{length}
 use Rattle.bitml.specs.Sheet.{Sheet}
 use Rattle.bitml.specs.Runs.{Liquid}
-use Rattle.bitml.specs.Rows.{Row, Accepted}
+use Rattle.bitml.specs.Rows.{Row, Accepted, FaultAt}
 use Rattle.bitml.specs.Rule.{rows}
 use Rattle.bitml.specs.Ledger.{Event, play, stipulated}
 use Rattle.bitml.specs.Liquidity.{Numbers, NumbersAlong, NoneLive, liveRank, Way}
 use Rattle.bitml.specs.Answers.{rowLine, frozenLine, Answer, refused, printed, liquidBy}
-use Rattle.bitml.specs.Demands.{Frozen}
+use Rattle.bitml.specs.Demands.{Frozen, Published}
 use Rattle.tables.specs.Entries.{Entries}
 use Rattle.tables.specs.SheetOf.{sheetOf}
 use Rattle.reader.specs.Request.{request, make, check, readRequest}
@@ -31,10 +31,12 @@ Leaves S p R =
 
 -- A liquid sheet
 pub record MadeRows (S : Sheet) (p : ℕ) (a : Answer) : Type 0 where
-  -- "one row for each reached node", the `liquid` line, and "The row buffer holds the rows"
+  -- The rows, the `liquid` line, and "The row buffer holds the rows"
   pub answer : a ≡ printed (map rowLine (rows S p) ++ (liquidBy S p (rows S p) ∷ [])) (rows S p)
   -- "A sheet is liquid for P if every reached node has an exit"
   pub liquid : Liquid S p
+  -- "The published rule: one row for each reached node; rank is the least .., branch the lowest with that rank"
+  pub published : Published S p (rows S p)
   -- Demand 3, second half: the published rows are accepted; and so its first half holds for them
   pub accepted : Accepted S p (rows S p)
   pub leaves : Leaves S p (rows S p)
@@ -58,11 +60,11 @@ pub record RowsTaken (S : Sheet) (p : ℕ) (R : List Row) (a : Answer) : Type 0 
 
 pub record RowsRefused (S : Sheet) (p : ℕ) (R : List Row) (a : Answer) : Type 0 where
   pub number : ℕ
-  pub line : ℕ
-  -- "or a refusal", "field 0 from 10 up"
-  pub answer : a ≡ refused number line 0
+  pub place : ℕ
+  -- "or a refusal", at the line of its row: the line of `check`, at place 0, is the one behind the `def` lines. "field 0 from 10 up"
+  pub answer : a ≡ refused number (length (S .defs) + 2 + place) 0
   -- "Rows: 10 .., 11 .., then row by row 11, 12, 13"
-  pub range : (10 ≤ number) × (number ≤ 13)
+  pub fault : FaultAt S p R number place
   -- "and in no other case"
   pub unaccepted : Accepted S p R → ⊥
 

@@ -60,11 +60,16 @@ module _ (S : Sheet) (wf : WellFormed S) (p : ℕ) where
 
 -- ---- from the bytes on
 
+-- where neither 1 nor a short buffer comes first, what is read is answered
+pub answer-room : (s : List ℕ) (places text : ℕ) → Room s places text → answerTo s places text ≡ judged s (readRequest s)
+unfolding answerTo
+answer-room s places text r =
+    ap (λ n. cond (eqb n 0) (judged s (readRequest s)) (refused n 0 0)) (sym (early-none (length s) places text (r .bytes) (r .enough-places) (r .enough-text)))
+
 -- a request that is read whole is answered by its last part
 answer-read : (s : List ℕ) (places text : ℕ) → Room s places text → (K : ℕ) (E : Entries) (l : LastPart) → readRequest s ≡ request K E l → answerTo s places text ≡ answerFor s K E l
-unfolding answerTo judged
-answer-read s places text room K E l e =
-    ap (λ n. cond (eqb n 0) (judged s (readRequest s)) (refused n 0 0)) (sym (early-none (length s) places text (room .bytes) (room .enough-places) (room .enough-text))) ∙ ap (judged s) e
+unfolding judged
+answer-read s places text room K E l e = answer-room s places text room ∙ ap (judged s) e
 
 pub formed : (s : List ℕ) (K : ℕ) (E : Entries) (l : LastPart) → readRequest s ≡ request K E l → WellFormed (sheetOf K E)
 unfolding PromisedWhole

@@ -32,17 +32,16 @@ use Rattle.plays.specs.Values.{valuesOf}
 use Rattle.plays.specs.Events.{eventsOf}
 use Rattle.plays.proofs.Ranges.{events-range}
 use Rattle.checker.specs.Demands.{Room}
-use Rattle.checker.specs.Entry.{answerFor, answerTo}
-use Rattle.checker.specs.Entry.{judged as judgedFrom}
-use Rattle.checker.specs.Refusals.{Why, tooLong, shortBuffers, notRead, rowsRefused, Refused, long, short, bad, judged, OfRefusals}
-use Rattle.checker.proofs.Entry.{early-long, early-rows, early-text, early-none}
-use Rattle.checker.proofs.Demands.{formed}
+use Rattle.checker.specs.Entry.{answerFor, judged, answerTo}
+use Rattle.checker.specs.Refusals.{Why, tooLong, shortBuffers, notRead, rowsRefused, Refused, long, short, misread, declined, OfRefusals}
+use Rattle.checker.proofs.Entry.{early-long, early-rows, early-text}
+use Rattle.checker.proofs.Demands.{answer-room, formed}
 
 -- ---- what comes before reading
 
 module _ (s : List ℕ) (places text : ℕ) where
   abbrev early-answer : ℕ → Answer
-  early-answer n = cond (eqb n 0) (judgedFrom s (readRequest s)) (refused n 0 0)
+  early-answer n = cond (eqb n 0) (judged s (readRequest s)) (refused n 0 0)
 
   answer-long : 65536 < length s → answerTo s places text ≡ refused 1 0 0
   unfolding answerTo
@@ -55,13 +54,9 @@ module _ (s : List ℕ) (places text : ℕ) where
       (λ k. ap early-answer (sym (early-text (length s) places text h k (⊎-elim (λ j. absurd (omega (arith, j, k))) (λ j. j) i))))
       (λ k. ap early-answer (sym (early-rows (length s) places text h (omega arith))))
 
-  answer-room : Room s places text → answerTo s places text ≡ judgedFrom s (readRequest s)
-  unfolding answerTo
-  answer-room r = ap early-answer (sym (early-none (length s) places text (r .bytes) (r .enough-places) (r .enough-text)))
-
   answer-unread : (n l f : ℕ) → Room s places text → readRequest s ≡ unread n l f → answerTo s places text ≡ refused n l f
-  unfolding judgedFrom
-  answer-unread n l f r e = answer-room r ∙ ap (judgedFrom s) e
+  unfolding judged
+  answer-unread n l f r e = answer-room s places text r ∙ ap (judged s) e
 
 -- ---- one reason
 
@@ -85,15 +80,15 @@ module _ {s : List ℕ} {places text : ℕ} where
   unfolding whyOf readingWhy
   refused-why (long h) = rw (lt-leb _ _ h)
   refused-why (short h i) = rw (le-leb _ _ h, short-test places text i)
-  refused-why (bad r e h) = room-why r ∙ ap readingWhy e
-  refused-why (judged r e h i) = room-why r ∙ ap readingWhy e
+  refused-why (misread r e h) = room-why r ∙ ap readingWhy e
+  refused-why (declined r e h i) = room-why r ∙ ap readingWhy e
 
   refused-number : {w : Why} {n l f : ℕ} → Refused s places text w n l f → (1 ≤ n) × (n ≤ 13)
   unfolding ReadNumber
   refused-number (long h) = (omega arith, omega arith)
   refused-number (short h i) = (omega arith, omega arith)
-  refused-number (bad r e h) = (omega (arith, h .number .0), omega (arith, h .number .1))
-  refused-number (judged r e h i) = (omega (arith, h .0), omega (arith, h .1))
+  refused-number (misread r e h) = (omega (arith, h .number .0), omega (arith, h .number .1))
+  refused-number (declined r e h i) = (omega (arith, h .0), omega (arith, h .1))
 
 -- ---- the refusals of rows
 
@@ -136,14 +131,14 @@ module _ (s : List ℕ) (places text : ℕ) where
       let none : f .number ≡ 0 → ⊥ = eqb-false _ _ z in
       let some : 0 < f .number = omega arith in
       let fault = demands .check-is-fault S p R (f .number) (f .place) .0 (some, refl) in
-      (rowsRefused, judged r e (fault-number fault) (omega (arith, formed s K E (check p R) e .some-def)))
+      (rowsRefused, declined r e (fault-number fault) (omega (arith, formed s K E (check p R) e .some-def)))
 
-  reading : Room s places text → (w : Reading) → readRequest s ≡ w → Reasoned (judgedFrom s w)
-  unfolding judgedFrom answerFor Reasoned OfReadings
+  reading : Room s places text → (w : Reading) → readRequest s ≡ w → Reasoned (judged s w)
+  unfolding judged answerFor Reasoned OfReadings
   reading r (request K E (make p)) e = made (sheetOf K E) p
   reading r (request K E (check p R)) e = checked K p E R r e
   reading r (request K E (play v z)) e = played (sheetOf K E) (valuesOf s v (defEntryAt E 0 .secrets)) (eventsOf s K z)
-  reading r (unread n l f) e = (notRead, bad r e (of-readings s n l f e))
+  reading r (unread n l f) e = (notRead, misread r e (of-readings s n l f e))
 
   narrow : length s ≤ 65536 → (places < 512) ⊎ (text < leastText) → Reasoned (answerTo s places text)
   unfolding Reasoned

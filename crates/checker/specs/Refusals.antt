@@ -31,9 +31,9 @@ pub data Refused (s : List ℕ) (places text : ℕ) : Why → ℕ → ℕ → �
   -- "a lent row buffer under 512 (line 0, field 0)", or a text buffer in which not every reply fits
   short : length s ≤ 65536 → (places < 512) ⊎ (text < leastText) → Refused s places text shortBuffers 7 0 0
   -- 2 to 9, at a line and a field from 1: it is what reading gives
-  bad : {n l f : ℕ} → Room s places text → readRequest s ≡ unread n l f → WhileReading n l f → Refused s places text notRead n l f
+  misread : {n l f : ℕ} → Room s places text → readRequest s ≡ unread n l f → WhileReading n l f → Refused s places text notRead n l f
   -- "Rows: 10 .., 11 .., then row by row 11, 12, 13": `check` stands on line 3 or later
-  judged : {K p n l : ℕ} {E : Entries} {R : List Row} → Room s places text → readRequest s ≡ request K E (check p R)
+  declined : {K p n l : ℕ} {E : Entries} {R : List Row} → Room s places text → readRequest s ≡ request K E (check p R)
       → (10 ≤ n) × (n ≤ 13) → 3 ≤ l → Refused s places text rowsRefused n l 0
 
 pub record OfRefusals : Type 0 where

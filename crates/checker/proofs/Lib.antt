@@ -1,5 +1,6 @@
+pub mod Buffers
 pub mod Demands
 pub mod Entry
 pub mod Printing
 pub mod Refusals
-pub mod Stars
+pub mod Cases

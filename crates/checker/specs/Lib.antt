@@ -1,4 +1,5 @@
+pub mod Buffers
 pub mod Demands
 pub mod Entry
 pub mod Refusals
-pub mod Stars
+pub mod Cases

@@ -1,0 +1,12 @@
+-- What comes back from calls with short buffers and for rows, by computing. Assumes nothing.
+use mathlib.Core.Path.{refl}
+use Rattle.bitml.specs.Lists.{nil, cons}
+use Rattle.exits.specs.Made.{flat, filled}
+use Rattle.replies.specs.Answer.{replyOf, numbersOf}
+use Rattle.checker.specs.Buffers.{comesBack, cases, Buffers}
+use Rattle.checker.proofs.Cases.{passed}
+
+pub buffers-hold : Buffers
+unfolding Buffers cases comesBack passed replyOf numbersOf filled flat
+buffers-hold =
+    cons refl (cons refl (cons refl (cons refl (cons refl (cons refl (cons refl (cons refl (cons refl (cons refl (cons refl (cons refl nil)))))))))))

@@ -1,0 +1,47 @@
+-- Cases for what the program does not print: the value that is handed back, buffers that are too short, and the row buffer. Assumes nothing.
+use mathlib.Core.Path.{_≡_}
+use Prim.Native.Nat.{ℕ}
+use mathlib.Core.List.{List, [], _∷_, _++_}
+use Rattle.bitml.specs.Lists.{All}
+use Rattle.texts.specs.Text.{letters}
+use Rattle.replies.specs.declared.Reply.{Reply}
+use Rattle.replies.specs.Answer.{replyOf, numbersOf}
+use Rattle.checker.specs.Entry.{answerTo}
+use Rattle.checker.specs.Cases.Case.{T, D, W, copies}
+
+-- A request, places for so many rows, so many bytes of text; and what comes back
+abbrev pub Case : Type 0
+Case = List ℕ × ℕ × ℕ × List ℕ
+
+-- number, line, field and length of the reply, and then what a row buffer of three places holds
+unfoldable pub comesBack : List ℕ → ℕ → ℕ → List ℕ
+comesBack s places text =
+    let a = answerTo s places text in
+    let r : Reply = replyOf a in
+    r .number ∷ r .line ∷ r .field ∷ r .length ∷ numbersOf 9 a
+
+unfoldable pub cases : List Case
+cases =
+    -- "The row buffer holds the rows .. and is zero past them"; the length is that of the text
+    (T ++ letters "make,0\n", 512, 180224, 0 ∷ 0 ∷ 0 ∷ 33 ∷ 0 ∷ 1 ∷ 1 ∷ 1 ∷ 0 ∷ 1 ∷ 0 ∷ 0 ∷ 0 ∷ [])
+    -- "(for `check` as given)"
+    ∷ (T ++ letters "check,0\nrow,1,0,7\nrow,0,0,9\n", 512, 180224, 0 ∷ 0 ∷ 0 ∷ 13 ∷ 1 ∷ 0 ∷ 7 ∷ 0 ∷ 0 ∷ 9 ∷ 0 ∷ 0 ∷ 0 ∷ [])
+    -- "it is wholly zero after `play`, `frozen` or a refused request": by reading, by rows
+    ∷ (W ++ letters "play\nfire,0,0\n", 512, 180224, 0 ∷ 0 ∷ 0 ∷ 16 ∷ 0 ∷ 0 ∷ 0 ∷ 0 ∷ 0 ∷ 0 ∷ 0 ∷ 0 ∷ 0 ∷ [])
+    ∷ (D ++ letters "make,1\n", 512, 180224, 0 ∷ 0 ∷ 0 ∷ 11 ∷ 0 ∷ 0 ∷ 0 ∷ 0 ∷ 0 ∷ 0 ∷ 0 ∷ 0 ∷ 0 ∷ [])
+    ∷ (T ++ letters "check,0\nrow,1,0,1\nrow,0,9,1\n", 512, 180224, 6 ∷ 5 ∷ 3 ∷ 0 ∷ 0 ∷ 0 ∷ 0 ∷ 0 ∷ 0 ∷ 0 ∷ 0 ∷ 0 ∷ 0 ∷ [])
+    ∷ (T ++ letters "check,0\nrow,1,0,1\nrow,0,0,1\n", 512, 180224, 13 ∷ 5 ∷ 0 ∷ 0 ∷ 0 ∷ 0 ∷ 0 ∷ 0 ∷ 0 ∷ 0 ∷ 0 ∷ 0 ∷ 0 ∷ [])
+    -- "a lent row buffer under 512", and a text buffer in which not every reply fits
+    ∷ (W ++ letters "make,0\n", 511, 180224, 7 ∷ 0 ∷ 0 ∷ 0 ∷ 0 ∷ 0 ∷ 0 ∷ 0 ∷ 0 ∷ 0 ∷ 0 ∷ 0 ∷ 0 ∷ [])
+    ∷ (W ++ letters "make,0\n", 512, 180223, 7 ∷ 0 ∷ 0 ∷ 0 ∷ 0 ∷ 0 ∷ 0 ∷ 0 ∷ 0 ∷ 0 ∷ 0 ∷ 0 ∷ 0 ∷ [])
+    -- longer ones change nothing
+    ∷ (W ++ letters "make,0\n", 513, 180225, 0 ∷ 0 ∷ 0 ∷ 23 ∷ 0 ∷ 0 ∷ 1 ∷ 0 ∷ 0 ∷ 0 ∷ 0 ∷ 0 ∷ 0 ∷ [])
+    -- "1, then short buffers, come first", before reading
+    ∷ ([], 511, 180224, 7 ∷ 0 ∷ 0 ∷ 0 ∷ 0 ∷ 0 ∷ 0 ∷ 0 ∷ 0 ∷ 0 ∷ 0 ∷ 0 ∷ 0 ∷ [])
+    ∷ (copies 65537 (letters "x"), 511, 180223, 1 ∷ 0 ∷ 0 ∷ 0 ∷ 0 ∷ 0 ∷ 0 ∷ 0 ∷ 0 ∷ 0 ∷ 0 ∷ 0 ∷ 0 ∷ [])
+    ∷ (copies 65536 (letters "x"), 511, 180224, 7 ∷ 0 ∷ 0 ∷ 0 ∷ 0 ∷ 0 ∷ 0 ∷ 0 ∷ 0 ∷ 0 ∷ 0 ∷ 0 ∷ 0 ∷ [])
+    ∷ []
+
+-- THE PROPOSITION: from each call of the list comes back what is due
+unfoldable pub Buffers : Type 0
+Buffers = All (λ (c : Case). comesBack (c .0) (c .1) (c .2) ≡ c .3) cases

@@ -3,7 +3,8 @@
 //! ```text
 //! rt staticlib checker
 //! rustc -O --edition 2021 -L target/staticlib -l static=checker tests/entry/main.rs -o target/tests/entry
-//! target/tests/entry [SEED COUNT [EXAMPLES]]     1, 20000 and examples if not given
+//! target/tests/entry [SEED COUNT [EXAMPLES [CASES]]]
+//!     1, 20000, examples and crates/checker/specs/Cases if not given
 //! ```
 //!
 //! The same memory is lent for every request and never cleared; before some calls it is filled with
@@ -16,6 +17,8 @@ mod cases;
 #[path = "../model/gen.rs"]
 mod generate;
 mod library;
+#[path = "../model/lists.rs"]
+mod lists;
 #[allow(dead_code)]
 #[path = "../model/model.rs"]
 mod model;
@@ -480,12 +483,14 @@ impl Test {
         }
     }
 
-    fn by_hand(&mut self) -> usize {
-        let cases = cases::by_hand();
+    /// The cases of the lists, and those by hand.
+    fn cases(&mut self, lists: &Path) -> Result<usize, String> {
+        let mut cases = lists::read(lists)?;
+        cases.extend(cases::by_hand());
         for case in &cases {
-            self.known(&case.name, case.request.as_bytes(), &case.due);
+            self.known(&case.name, &case.request, &case.due);
         }
-        cases.len()
+        Ok(cases.len())
     }
 
     /// 1 comes before short buffers, and these before reading.
@@ -598,7 +603,7 @@ impl Test {
     }
 }
 
-fn run(seed: u64, count: usize, folder: &Path) -> Result<usize, String> {
+fn run(seed: u64, count: usize, folder: &Path, lists: &Path) -> Result<usize, String> {
     let tried = comparison_can_fail()?;
     println!("{tried} altered answers were noticed");
     let mut test = Test {
@@ -607,7 +612,7 @@ fn run(seed: u64, count: usize, folder: &Path) -> Result<usize, String> {
         counts: Counts::default(),
         failures: 0,
     };
-    let by_hand = test.by_hand();
+    let cases = test.cases(lists)?;
     test.buffers_by_hand();
     let examples = test
         .examples(folder)
@@ -615,7 +620,7 @@ fn run(seed: u64, count: usize, folder: &Path) -> Result<usize, String> {
     if examples == 0 {
         return Err(format!("no examples in {}", folder.display()));
     }
-    println!("{by_hand} requests by hand, {examples} examples");
+    println!("{cases} cases, {examples} examples");
     let mut missing = test.counts.missing();
     // The generated requests must show every number by themselves where there are enough of them.
     let before = std::mem::take(&mut test.counts);
@@ -641,11 +646,12 @@ fn main() -> ExitCode {
         None => Ok(default),
     };
     let (Ok(seed), Ok(count)) = (number(0, 1), number(1, GENERATED as u64)) else {
-        eprintln!("entry [SEED COUNT [EXAMPLES]]");
+        eprintln!("entry [SEED COUNT [EXAMPLES [CASES]]]");
         return ExitCode::FAILURE;
     };
     let folder = arguments.get(2).map_or("examples", String::as_str);
-    match run(seed, count as usize, Path::new(folder)) {
+    let lists = arguments.get(3).map_or(lists::FOLDER, String::as_str);
+    match run(seed, count as usize, Path::new(folder), Path::new(lists)) {
         Ok(calls) => {
             println!("{calls} calls compared, 0 failed");
             ExitCode::SUCCESS

@@ -2,18 +2,22 @@
 //!
 //! ```text
 //! rustc -O --edition 2021 main.rs -o model
-//! ./model [selftest [EXAMPLES]]   the self-test; EXAMPLES is a folder of sheets (NAME.txt)
-//! ./model judge < REQUEST         prints what the program `judge` prints
-//! ./model gen SEED COUNT FOLDER   writes FOLDER/NNNNNN.req and what the model prints, .out
-//! ./model verdicts SHEET          the verdict of `make` for each participant
+//! ./model selftest [EXAMPLES [CASES]]   the self-test; EXAMPLES is a folder of sheets (NAME.txt)
+//! ./model judge < REQUEST               prints what the program `judge` prints
+//! ./model gen SEED COUNT FOLDER         writes FOLDER/NNNNNN.req and what the model prints, .out
+//! ./model verdicts SHEET                the verdict of `make` for each participant
+//! ./model wrong [CASES]                 do the cases pin the rules? (only with --cfg wrong_rules)
 //! ```
 //!
-//! The cases by hand are those of cases.rs.
+//! CASES is the folder of the lists of cases, crates/checker/specs/Cases if not given; cases.rs has more.
 
 mod cases;
 #[path = "gen.rs"]
 mod generate;
+mod lists;
 mod model;
+#[cfg(wrong_rules)]
+mod pins;
 
 use std::collections::{HashMap, HashSet, VecDeque};
 use std::io::{Read, Write};
@@ -34,12 +38,12 @@ struct Cases {
 impl Cases {
     fn expect(&mut self, Case { name, request, due }: &Case) {
         self.run += 1;
-        let (reply, rows) = model::judge(request.as_bytes());
+        let (reply, rows) = model::judge(request);
         let printed = reply.printed();
         if printed != *due {
-            let shown: String = request.chars().take(300).collect();
+            let shown = request[..request.len().min(300)].escape_ascii();
             self.failed.push(format!(
-                "{name}\n  request {shown:?}\n  due {due:?}\n  got {printed:?}"
+                "{name}\n  request {shown}\n  due {due:?}\n  got {printed:?}"
             ));
         }
         // The row buffer is empty unless the sheet was found liquid.
@@ -129,6 +133,69 @@ fn sheet_as_read(cases: &mut Cases) {
         )),
     );
     cases.holds("nested condition", condition == Some(due));
+}
+
+/// A small list of cases.
+const LIST: &str = r#"use texts.{letters}
+
+-- a text
+unfoldable pub A : List ℕ
+A = letters "a\n"
+
+unfoldable pub cases : List Case
+cases =
+    -- one
+    (A ++ copies 2 (byte 7), letters "b")
+    -- two
+    -- more
+    ∷ (
+      [],
+      (A),
+    )
+    ∷ []
+"#;
+
+/// The reader of the lists leaves nothing out: it reads that list, and not if it is spoilt.
+fn lists_are_strict(cases: &mut Cases) {
+    let read = |list: &str| lists::file("S", list, &mut HashMap::new());
+    let due = [
+        ("S, line 10: one", &b"a\n\x07\x07"[..], "b"),
+        ("S, line 13: two", b"", "a\n"),
+    ];
+    let right = read(LIST).is_ok_and(|read| {
+        let parts = |case: &Case| (case.name.clone(), case.request.clone(), case.due.clone());
+        let due = due.map(|(name, request, due)| (name.into(), request.into(), due.into()));
+        read.iter().map(parts).eq(due)
+    });
+    cases.holds("a list is read", right);
+    for (part, spoilt) in [
+        ("∷ []", "[]"),
+        ("∷ []", "∷ (A, A)"),
+        ("∷ []", "∷ [] []"),
+        ("    ∷ (", "\n∷ ("),
+        ("    -- two", "-- two"),
+        ("    -- one\n", ""),
+        ("copies 2", "copies n"),
+        ("copies 2", "twice"),
+        ("byte 7", "byte 256"),
+        ("(A)", "(B)"),
+        ("(A)", "(A"),
+        ("\\n", "\\t"),
+        ("letters \"b\"", "letters b"),
+        ("letters \"b\"", "letters \"b"),
+        ("letters \"b\"", "letters \"ℕ\""),
+        ("cases =", "case ="),
+        (
+            "pub cases",
+            "pub other : List Case\nother = []\n\nunfoldable pub cases",
+        ),
+        ("A : List ℕ", "A : List Case"),
+        ("use ", "mod "),
+    ] {
+        let spoilt = LIST.replacen(part, spoilt, 1);
+        let refused = spoilt != LIST && read(&spoilt).is_err();
+        cases.holds(&format!("a spoilt list is refused: {spoilt}"), refused);
+    }
 }
 
 // ---------------------------------------------------------------------------------------------
@@ -261,27 +328,6 @@ fn properties(cases: &mut Cases, seed: u64, count: usize) {
     println!("properties: {small} small sheets searched, {liquid} liquid, {plays} plays followed");
 }
 
-/// How many fields a condition has.
-fn condition_fields(condition: &Condition) -> usize {
-    match condition {
-        Condition::True => 1,
-        Condition::And(left, right) => 1 + condition_fields(left) + condition_fields(right),
-        Condition::Not(part) => 1 + condition_fields(part),
-        Condition::Equal(left, right) | Condition::Less(left, right) => {
-            1 + expression_fields(left) + expression_fields(right)
-        }
-    }
-}
-
-fn expression_fields(expression: &Expression) -> usize {
-    match expression {
-        Expression::Constant(_) | Expression::Secret(_) => 2,
-        Expression::Add(left, right) | Expression::Subtract(left, right) => {
-            1 + expression_fields(left) + expression_fields(right)
-        }
-    }
-}
-
 /// The names of the limits that a request which was read reaches but does not pass.
 fn limits_reached(bytes: &[u8]) -> Vec<&'static str> {
     let Ok(request) = model::read(bytes) else {
@@ -291,7 +337,7 @@ fn limits_reached(bytes: &[u8]) -> Vec<&'static str> {
     let branches = || sheet.nodes.iter().flat_map(|node| &node.branches);
     let longest = branches()
         .filter_map(|branch| match &branch.action {
-            Action::Reveal { condition, .. } => Some(condition_fields(condition)),
+            Action::Reveal { condition, .. } => Some(condition.fields()),
             _ => None,
         })
         .max();
@@ -477,7 +523,7 @@ fn speed(cases: &mut Cases) {
     ];
     cases.expect(&Case {
         name: "484 rows".to_string(),
-        request: rows,
+        request: rows.into_bytes(),
         due: "liquid,0,484,9\n".to_string(),
     });
     for (name, request) in requests {
@@ -564,24 +610,19 @@ fn examples(cases: &mut Cases, folder: &Path) {
 // The program
 // ---------------------------------------------------------------------------------------------
 
-fn selftest(folders: &[String]) -> bool {
+fn selftest(folder: &Path, lists: &Path) -> Result<bool, String> {
     let mut cases = Cases::default();
-    for case in cases::by_hand() {
-        cases.expect(&case);
+    for case in lists::read(lists)?.iter().chain(&cases::by_hand()) {
+        cases.expect(case);
     }
+    lists_are_strict(&mut cases);
     row_buffer(&mut cases);
     sheet_as_read(&mut cases);
-    println!(
-        "cases by hand: {} run, {} failed",
-        cases.run,
-        cases.failed.len()
-    );
+    println!("cases: {} run, {} failed", cases.run, cases.failed.len());
     println!("speed:");
     speed(&mut cases);
     properties(&mut cases, 2, 3_000);
-    for folder in folders {
-        examples(&mut cases, Path::new(folder));
-    }
+    examples(&mut cases, folder);
 
     let counts = generated(1, 20_000);
     println!(
@@ -635,15 +676,29 @@ fn selftest(folders: &[String]) -> bool {
         println!("FAILED ({times}): {failure}");
     }
     println!("{} tests, {} failed", cases.run, cases.failed.len());
-    cases.failed.is_empty()
+    Ok(cases.failed.is_empty())
+}
+
+#[cfg(wrong_rules)]
+fn wrong(lists: &Path) -> Result<bool, String> {
+    Ok(pins::test(&lists::read(lists)?, &cases::by_hand()))
 }
 
 fn main() -> std::process::ExitCode {
     let arguments: Vec<String> = std::env::args().skip(1).collect();
     let words: Vec<&str> = arguments.iter().map(String::as_str).collect();
+    let other = std::io::Error::other;
     let done: std::io::Result<bool> = match words.as_slice() {
-        [] => Ok(selftest(&["../../examples".to_string()])),
-        ["selftest", ..] => Ok(selftest(&arguments[1..])),
+        ["selftest", rest @ ..] if rest.len() <= 2 => {
+            let examples = rest.first().unwrap_or(&"examples");
+            let lists = rest.get(1).unwrap_or(&lists::FOLDER);
+            selftest(Path::new(examples), Path::new(lists)).map_err(other)
+        }
+        #[cfg(wrong_rules)]
+        ["wrong", rest @ ..] if rest.len() <= 1 => {
+            let lists = rest.first().unwrap_or(&lists::FOLDER);
+            wrong(Path::new(lists)).map_err(other)
+        }
         ["judge"] => {
             let mut request = Vec::new();
             std::io::stdin()
@@ -668,7 +723,7 @@ fn main() -> std::process::ExitCode {
         }),
         _ => {
             eprintln!(
-                "model [selftest [EXAMPLES]] | judge | gen SEED COUNT FOLDER | verdicts SHEET"
+                "model selftest [EXAMPLES [CASES]] | judge | gen SEED COUNT FOLDER | verdicts SHEET | wrong [CASES]"
             );
             Ok(false)
         }

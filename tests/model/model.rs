@@ -8,6 +8,13 @@
 //! * [`exits`], [`reached`], [`make`] and [`check`] are the judging part.
 //! * [`Ledger`] is the program's ledger; [`Ledger::step`] is one event.
 //! * [`judge`] is the whole program: bytes to what it prints, and the row buffer.
+//!
+//! `rule!`, `limit!` and `lower!` are of wrong.rs.  What comes first in a `rule!` is the rule; what
+//! follows it are wrong ones by name, which only the test of the cases turns on.
+
+#[macro_use]
+#[path = "wrong.rs"]
+pub mod wrong;
 
 // ---------------------------------------------------------------------------------------------
 // Limits
@@ -200,7 +207,7 @@ fn lowest(faults: impl IntoIterator<Item = (u32, bool)>) -> Option<u32> {
         .into_iter()
         .filter(|(_, applies)| *applies)
         .map(|(number, _)| number)
-        .min()
+        .reduce(|one, other| lower!(one, other))
 }
 
 // ---------------------------------------------------------------------------------------------
@@ -240,14 +247,16 @@ struct Reader<'a> {
 
 /// The number that a field holds: 1 to 19 digits, no sign, no leading zero.
 fn decimal(text: &[u8]) -> Option<u64> {
-    let length_fits = (1..=19).contains(&text.len());
+    let text = rule!(text; PlusSign: text.strip_prefix(b"+").unwrap_or(text));
+    let least = rule!(1; EmptyIsZero: 0);
+    let length_fits = (least..=limit!(Digits, 19)).contains(&text.len());
     let all_digits = text.iter().all(|byte| byte.is_ascii_digit());
-    let leading_zero = text.len() > 1 && text[0] == b'0';
+    let longer = rule!(text.len() > 1; LeadingZeros: false, ZeroIsNone: true);
+    let leading_zero = longer && text[0] == b'0';
     if length_fits && all_digits && !leading_zero {
-        Some(
-            text.iter()
-                .fold(0, |number, digit| number * 10 + u64::from(digit - b'0')),
-        )
+        let add = |number: u64, digit: &u8| number * 10 + u64::from(digit - b'0');
+        let number = text.iter().fold(0, add);
+        Some(rule!(number; NumbersIn32Bits: u64::from(number as u32)))
     } else {
         None
     }
@@ -279,7 +288,10 @@ impl<'a> Reader<'a> {
 
     /// Goes to the next line.  If there is none, the line's first field will be found missing.
     fn begin_line(&mut self) {
-        self.line += 1;
+        while rule!(false; EmptyLinesSkipped: self.request[self.position..].starts_with(b"\n")) {
+            (self.position, self.line) = (self.position + 1, self.line + 1);
+        }
+        self.line += rule!(1; MissingLineBefore: usize::from(self.line_follows()));
         self.field = 0;
         self.next = if self.line_follows() {
             Next::Field
@@ -292,8 +304,8 @@ impl<'a> Reader<'a> {
     fn refusal(&self, number: u32) -> Refusal {
         Refusal {
             number,
-            line: self.line,
-            field: self.field,
+            line: rule!(self.line; LinesFrom0: self.line - 1),
+            field: rule!(self.field; FieldsFrom0: self.field - 1),
         }
     }
 
@@ -301,7 +313,8 @@ impl<'a> Reader<'a> {
     fn take(&mut self) -> Result<&'a [u8], Refusal> {
         self.field += 1;
         if self.next != Next::Field {
-            return Err(self.refusal(2));
+            self.field -= rule!(0; MissingAtTheLast: 1);
+            return Err(self.refusal(rule!(2; MissingIsThree: 3)));
         }
         let rest = &self.request[self.position..];
         let length = rest
@@ -316,30 +329,56 @@ impl<'a> Reader<'a> {
         // The comma or LF counts; where the request ends without one there is nothing to count.
         let counted = if self.next == Next::RequestOver { 0 } else { 1 };
         self.position += length + counted;
-        Ok(&rest[..length])
+        let last = self.next != Next::Field;
+        if rule!(false; EmptyIsMissing: length == 0, EmptyLastIsMissing: length == 0 && last) {
+            return Err(self.refusal(2));
+        }
+        let text = &rest[..length];
+        Ok(rule!(text;
+            CarriageReturns: text.strip_suffix(b"\r").unwrap_or(text),
+            Quotes: wrong::unquoted(text),
+            Spaces: text.trim_ascii()))
     }
 
-    /// Judges the field that was taken last: of all the faults that apply to it the lowest number
-    /// is given.  The limit of 32,768 bytes (7) stands beside the faults of each field.
+    /// Of the faults that apply to the field that was taken last, the lowest number.  The limit of
+    /// 32,768 bytes (7) stands beside the faults of each field.
+    fn fault(&self, faults: impl IntoIterator<Item = (u32, bool)>) -> Option<u32> {
+        let counted = rule!(self.position;
+            EndsNotCounted: self.position - 1,
+            MissingEndCounted: self.position + usize::from(self.next == Next::RequestOver));
+        let in_sheet = rule!(self.in_sheet; WholeRequestLimited: true);
+        let too_long = (7, in_sheet && counted > limit!(SheetBytes, SHEET_BYTES));
+        lowest(faults.into_iter().chain([too_long]))
+    }
+
+    /// Judges the field that was taken last.
     fn settle<const N: usize>(&self, faults: [(u32, bool); N]) -> Result<(), Refusal> {
-        let too_long = (7, self.in_sheet && self.position > SHEET_BYTES);
-        match lowest(faults.into_iter().chain([too_long])) {
+        match self.fault(faults) {
             Some(number) => Err(self.refusal(number)),
             None => Ok(()),
         }
+    }
+
+    /// The field that was taken last is not the word or number due: 3, the lowest that applies.
+    fn not_due<const N: usize>(&self, faults: [(u32, bool); N]) -> Refusal {
+        let other = self.fault(faults).unwrap_or(3);
+        self.refusal(lower!(3, other))
     }
 
     /// The line must be over: a field too many gets 9, a missing LF gets 2.
     fn end_line(&mut self) -> Result<(), Refusal> {
         match self.next {
             Next::LineOver => Ok(()),
+            Next::RequestOver if rule!(false; FinalLfNotAsked: true) => Ok(()),
             Next::RequestOver => {
-                self.field += 1;
+                self.field += rule!(1; MissingLfAtTheLast: 0);
                 Err(self.refusal(2))
             }
             Next::Field => {
-                self.take()?;
-                self.settle([(9, true)])
+                let empty = self.take()?.is_empty();
+                let nine = rule!(9; ExtraIsThree: 3, ExtraEmptyIsThree: if empty { 3 } else { 9 });
+                let extra = rule!(true; ExtraIgnored: false, ExtraEmptyIgnored: !empty);
+                self.settle([(nine, extra)])
             }
         }
     }
@@ -351,8 +390,13 @@ impl<'a> Reader<'a> {
         faults: [(u32, bool); N],
     ) -> Result<&'static str, Refusal> {
         let text = self.take()?;
-        let word = due.iter().find(|word| word.as_bytes() == text);
-        let word = word.ok_or(self.refusal(3))?;
+        let is_text = |word: &&str| {
+            rule!(word.as_bytes() == text;
+                Capitals: word.as_bytes().eq_ignore_ascii_case(text),
+                LongerWords: text.starts_with(word.as_bytes()))
+        };
+        let word = due.iter().copied().find(is_text);
+        let word = word.ok_or_else(|| self.not_due(faults))?;
         self.settle(faults)?;
         Ok(word)
     }
@@ -363,19 +407,32 @@ impl<'a> Reader<'a> {
         faults: impl FnOnce(u64) -> [(u32, bool); N],
     ) -> Result<u64, Refusal> {
         let text = self.take()?;
-        let number = decimal(text).ok_or(self.refusal(3))?;
+        self.number_in(text, faults)
+    }
+
+    /// Reads the number in the field that was taken last.
+    fn number_in<const N: usize>(
+        &self,
+        text: &[u8],
+        faults: impl FnOnce(u64) -> [(u32, bool); N],
+    ) -> Result<u64, Refusal> {
+        let Some(number) = decimal(text) else {
+            return Err(self.not_due(faults(u64::MAX)));
+        };
         self.settle(faults(number))?;
         Ok(number)
     }
 
     /// Reads a count or an amount; beyond its range it gets 4.
     fn ranged(&mut self, least: u64, most: u64) -> Result<u64, Refusal> {
-        self.number(|number| [(4, number < least || number > most)])
+        let four = rule!(4; RangeIsSix: 6);
+        self.number(|number| [(four, number < least || number > most)])
     }
 
     /// Reads the number of a thing of which there are `count`; if there is no such thing it gets 6.
     fn thing(&mut self, count: usize) -> Result<usize, Refusal> {
-        let number = self.number(|number| [(6, number >= count as u64)])?;
+        let six = rule!(6; ThingIsFour: 4);
+        let number = self.number(|number| [(six, number >= count as u64)])?;
         Ok(number as usize)
     }
 
@@ -386,8 +443,9 @@ impl<'a> Reader<'a> {
             self.settle([])?;
             return Ok(Value::IllFormed);
         }
-        let number = decimal(text).ok_or(self.refusal(3))?;
-        self.settle([(4, number > VALUE)])?;
+        let least = rule!(0; ValueFrom1: 1);
+        let outside = |number| number > limit!(Value, VALUE) || number < least;
+        let number = self.number_in(text, |number| [(4, outside(number))])?;
         Ok(Value::Number(number))
     }
 
@@ -396,10 +454,15 @@ impl<'a> Reader<'a> {
     fn sheet(&mut self) -> Result<(), Refusal> {
         self.begin_line();
         self.word(&["bitml"], [])?;
-        self.participants = self.ranged(1, PARTICIPANTS)? as usize;
-        self.definitions_due = self.ranged(1, DEFINITIONS)?;
+        let least = limit!(LeastParticipants, 1);
+        self.participants = self.ranged(least, limit!(Participants, PARTICIPANTS))? as usize;
+        let least = limit!(LeastDefinitions, 1);
+        self.definitions_due = self.ranged(least, limit!(Definitions, DEFINITIONS))?;
         self.end_line()?;
         for _ in 0..self.definitions_due {
+            self.definition()?;
+        }
+        while rule!(false; MoreDefinitionsRead: self.request[self.position..].starts_with(b"def")) {
             self.definition()?;
         }
         Ok(())
@@ -409,22 +472,26 @@ impl<'a> Reader<'a> {
         self.begin_line();
         self.word(&["def"], [])?;
         let mut deposits = Vec::new();
-        let mut together = 0;
-        for _ in 0..self.participants {
+        let mut together = rule!(0;
+            DepositsOfAll: self.definitions.iter().flat_map(|d| &d.deposits).sum());
+        for place in 1..=self.participants {
+            let told_here = rule!(true; SumAtTheLast: place == self.participants);
             let deposit = self.number(|deposit| {
-                [
-                    (4, deposit > SATOSHI),
-                    (7, deposit.saturating_add(together) > SATOSHI),
-                ]
+                let least = rule!(0; DepositFrom1: 1);
+                let outside = deposit > limit!(Deposit, SATOSHI) || deposit < least;
+                let sum = deposit.saturating_add(together);
+                let passed = told_here && sum > limit!(Deposits, SATOSHI);
+                [(4, outside), (rule!(7; SumIsFour: 4), passed)]
             })?;
             together += deposit;
             deposits.push(deposit);
         }
-        let secrets = self.ranged(0, SECRETS)?;
+        let secrets = self.ranged(rule!(0; SecretsFrom1: 1), limit!(Secrets, SECRETS))?;
         let mut owners = Vec::new();
         for _ in 0..secrets {
-            owners.push(self.thing(self.participants)?);
+            owners.push(self.thing(limit!(Owner, self.participants))?);
         }
+        self.branches = rule!(self.branches; BranchesByDefinition: 0);
         // The definition's number is the count of those before it, and its root is the next node.
         let root = self.nodes.len();
         self.definitions.push(Definition {
@@ -439,14 +506,21 @@ impl<'a> Reader<'a> {
     /// Reads a contract and gives its node.
     fn contract(&mut self, depth: usize) -> Result<usize, Refusal> {
         let node = self.nodes.len();
-        self.word(&["c"], [(7, node >= NODES), (7, depth > DEPTH)])?;
+        let before = rule!(node;
+            NodesByDefinition: node - self.definitions[self.definitions.len() - 1].root);
+        let no_room = before >= limit!(Nodes, NODES);
+        self.word(&["c"], [(7, no_room), (7, depth > limit!(Depth, DEPTH))])?;
         let definition = self.definitions.len() - 1;
         self.nodes.push(Node {
             definition,
             depth,
             branches: Vec::new(),
         });
-        let count = self.ranged(0, BRANCHES_OF_A_NODE)?;
+        let least = rule!(0; BranchesFrom1: 1);
+        let count = self.ranged(least, limit!(BranchesOfANode, BRANCHES_OF_A_NODE))?;
+        if rule!(false; BranchesForetold: self.branches + count as usize > BRANCHES) {
+            return Err(self.refusal(7));
+        }
         for _ in 0..count {
             let branch = self.branch(depth)?;
             self.nodes[node].branches.push(branch);
@@ -456,21 +530,28 @@ impl<'a> Reader<'a> {
 
     /// Reads a branch of a contract at this depth.
     fn branch(&mut self, depth: usize) -> Result<Branch, Refusal> {
-        let all = 1u64 << self.participants;
-        let no_room = self.branches >= BRANCHES;
-        let signers = self.number(|signers| [(6, signers >= all), (7, no_room)])?;
+        let all = limit!(Signers, 1u64 << self.participants);
+        let no_room = self.branches >= limit!(Branches, BRANCHES);
+        let six = rule!(6; SignersIsFour: 4);
+        let signers = self.number(|signers| [(six, signers >= all), (7, no_room)])?;
+        let signers = rule!(signers;
+            SignersBackwards: wrong::backwards(signers, self.participants));
         self.branches += 1;
-        let opens = self.ranged(0, TIME)?;
+        let opens = self.ranged(rule!(0; OpensFrom1: 1), limit!(OpeningTime, TIME))?;
         let action = match self.word(&["w", "s", "r", "g"], [])? {
             "w" => Action::Withdraw {
-                to: self.thing(self.participants)?,
+                to: self.thing(limit!(PaidTo, self.participants))?,
             },
             "s" => Action::Split {
                 parts: self.parts(depth)?,
             },
             "r" => self.reveal(depth)?,
             _ => Action::Renew {
-                definition: self.thing(self.definitions_due as usize)?,
+                definition: {
+                    let count = self.definitions_due as usize;
+                    let count = rule!(count; NoLaterDefinition: self.definitions.len());
+                    self.thing(limit!(RenewedAs, count))?
+                },
             },
         };
         Ok(Branch {
@@ -481,16 +562,26 @@ impl<'a> Reader<'a> {
     }
 
     fn parts(&mut self, depth: usize) -> Result<Vec<Part>, Refusal> {
-        let count = self.ranged(1, PARTS)?;
+        let count = self.ranged(limit!(LeastParts, 1), limit!(Parts, PARTS))?;
         let mut parts = Vec::new();
         let mut sum = 0;
         for place in 1..=count {
-            let last = place == count;
-            let weight =
-                self.number(|weight| [(4, weight > WEIGHT), (8, last && sum + weight == 0)])?;
-            sum += weight;
-            let node = self.contract(depth + 1)?;
+            let told_here = rule!(place == count;
+                ZeroSumAtTheFirst: place == 1,
+                ZeroSumAllowed: false,
+                ZeroSumAfter: false);
+            let weight = self.number(|weight| {
+                let sum = rule!(sum; EachWeightFrom1: 0) + u128::from(weight);
+                let least = rule!(0; WeightFrom1: 1);
+                let outside = weight > limit!(Weight, WEIGHT) || weight < least;
+                [(4, outside), (8, told_here && sum == 0)]
+            })?;
+            sum += u128::from(weight);
+            let node = self.contract(rule!(depth + 1; SplitsNotDeeper: depth))?;
             parts.push(Part { weight, node });
+        }
+        if rule!(false; ZeroSumAfter: sum == 0) {
+            return Err(self.refusal(8));
         }
         Ok(parts)
     }
@@ -500,18 +591,28 @@ impl<'a> Reader<'a> {
             .definitions
             .last()
             .map_or(0, |definition| definition.owners.len());
+        let owned = rule!(owned; SecretsOfDefinition0: self.definitions[0].owners.len());
         // The count is 1 to 8 whatever the definition has; the secrets then get 5 or 6.
-        let count = self.ranged(1, SECRETS)?;
+        let most = rule!(limit!(Listed, SECRETS); ListedAsOwned: owned as u64);
+        let count = self.ranged(limit!(LeastListed, 1), most)?;
         let mut secrets: Vec<usize> = Vec::new();
         for _ in 0..count {
             let secret = self.number(|secret| {
-                let twice = secrets.iter().any(|listed| *listed as u64 == secret);
-                [(5, twice), (6, secret >= owned as u64)]
+                let same = |listed: &usize| *listed as u64 == secret;
+                let twice = rule!(secrets.iter().any(same);
+                    TwiceAllowed: false,
+                    TwiceInARowOnly: secrets.last().is_some_and(same));
+                let unknown = secret >= limit!(ListedSecret, owned as u64);
+                [(5, twice), (6, unknown)]
             })?;
             secrets.push(secret as usize);
         }
-        let condition = self.condition(&secrets, &mut 0)?;
-        let next = self.contract(depth + 1)?;
+        let named = rule!(secrets.clone(); AnySecretNamed: (0..owned).collect());
+        let mut fields = rule!(0;
+            FieldsOfAllConditions: wrong::condition_fields(&self.nodes),
+            SecretsAreFields: secrets.len());
+        let condition = self.condition(&named, &mut fields)?;
+        let next = self.contract(rule!(depth + 1; RevealsNotDeeper: depth))?;
         Ok(Action::Reveal {
             secrets,
             condition,
@@ -523,10 +624,8 @@ impl<'a> Reader<'a> {
 
     fn condition(&mut self, listed: &[usize], fields: &mut usize) -> Result<Condition, Refusal> {
         *fields += 1;
-        let word = self.word(
-            &["t", "and", "not", "eq", "lt"],
-            [(7, *fields > CONDITION_FIELDS)],
-        )?;
+        let passed = *fields > limit!(FieldsAtCondition, CONDITION_FIELDS);
+        let word = self.word(&["t", "and", "not", "eq", "lt"], [(7, passed)])?;
         Ok(match word {
             "t" => Condition::True,
             "and" => {
@@ -549,21 +648,25 @@ impl<'a> Reader<'a> {
 
     fn expression(&mut self, listed: &[usize], fields: &mut usize) -> Result<Expression, Refusal> {
         *fields += 1;
-        let word = self.word(&["k", "v", "add", "sub"], [(7, *fields > CONDITION_FIELDS)])?;
+        let passed = *fields > limit!(FieldsAtExpression, CONDITION_FIELDS);
+        let word = self.word(&["k", "v", "add", "sub"], [(7, passed)])?;
         Ok(match word {
             "k" => {
-                *fields += 1;
-                let passed = *fields > CONDITION_FIELDS;
-                Expression::Constant(self.number(|number| [(4, number > VALUE), (7, passed)])?)
+                *fields += rule!(1; NumbersNotCounted: 0);
+                let passed = *fields > limit!(FieldsAtConstant, CONDITION_FIELDS);
+                let least = rule!(0; ConstantFrom1: 1);
+                let outside = |number| number > limit!(Constant, VALUE) || number < least;
+                Expression::Constant(self.number(|number| [(4, outside(number)), (7, passed)])?)
             }
             "v" => {
-                *fields += 1;
-                let passed = *fields > CONDITION_FIELDS;
+                *fields += rule!(1; NumbersNotCounted: 0);
+                let passed = *fields > limit!(FieldsAtSecret, CONDITION_FIELDS);
                 let secret = self.number(|secret| {
-                    let known = listed.iter().any(|listed| *listed as u64 == secret);
+                    let known = rule!(listed.iter().any(|listed| *listed as u64 == secret);
+                        NamedByPlace: secret < listed.len() as u64);
                     [(6, !known), (7, passed)]
                 })?;
-                Expression::Secret(secret as usize)
+                Expression::Secret(rule!(secret as usize; NamedByPlace: listed[secret as usize]))
             }
             word => {
                 let left = Box::new(self.expression(listed, fields)?);
@@ -583,28 +686,35 @@ impl<'a> Reader<'a> {
         self.begin_line();
         match self.word(&["make", "check", "play"], [])? {
             "make" => {
-                let participant = self.thing(self.participants)?;
+                let participant = self.thing(limit!(Maker, self.participants))?;
                 self.end_line()?;
-                if self.line_follows() {
+                let rest = self.request.len() - self.position;
+                if rule!(rest > 0; MoreLinesAllowed: false, EmptyLineAllowed: rest > 1) {
                     // A line too many, whatever stands in it.
                     self.begin_line();
                     self.field = 1;
-                    return Err(self.refusal(9));
+                    return Err(self.refusal(rule!(9; ExtraLineIsThree: 3)));
                 }
                 Ok(LastPart::Make { participant })
             }
             "check" => {
-                let participant = self.thing(self.participants)?;
+                let participant = self.thing(limit!(CheckedFor, self.participants))?;
                 self.end_line()?;
-                let mut rows = Vec::new();
+                let mut rows: Vec<Row> = Vec::new();
                 while self.line_follows() {
                     let row = self.row(rows.len())?;
+                    let twice = |before: &Row| before.node == row.node;
+                    if rule!(false; TwiceWhileReading: rows.iter().any(twice)) {
+                        self.field = 0;
+                        return Err(self.refusal(10));
+                    }
                     rows.push(row);
                 }
                 Ok(LastPart::Check { participant, rows })
             }
             _ => {
-                let secrets = self.definitions[0].owners.len();
+                let definition = rule!(0; ValuesOfTheLast: self.definitions.len() - 1);
+                let secrets = self.definitions[definition].owners.len();
                 let mut values = Vec::new();
                 for _ in 0..secrets {
                     values.push(self.value()?);
@@ -622,10 +732,11 @@ impl<'a> Reader<'a> {
     /// Reads a row line, after `before` others.
     fn row(&mut self, before: usize) -> Result<Row, Refusal> {
         self.begin_line();
-        self.word(&["row"], [(7, before >= ROWS)])?;
-        let node = self.thing(self.nodes.len())?;
-        let branch = self.thing(self.nodes[node].branches.len())?;
-        let rank = self.ranged(1, RANK)?;
+        self.word(&["row"], [(7, before >= limit!(Rows, ROWS))])?;
+        let node = self.thing(limit!(RowNode, self.nodes.len()))?;
+        let branches = self.nodes[node].branches.len();
+        let branch = self.thing(rule!(limit!(RowBranch, branches); RowBranchOfAny: 16))?;
+        let rank = self.ranged(limit!(LeastRank, 1), limit!(Rank, RANK))?;
         self.end_line()?;
         Ok(Row { node, branch, rank })
     }
@@ -634,28 +745,39 @@ impl<'a> Reader<'a> {
         self.begin_line();
         let event = match self.word(&["wait", "sign", "tell", "fire", "renew"], [])? {
             "wait" => Event::Wait {
-                delay: self.ranged(1, TIME)?,
+                delay: self.ranged(limit!(LeastWait, 1), limit!(Wait, TIME))?,
             },
             "sign" => Event::Sign {
-                participant: self.thing(self.participants)?,
-                contract: self.event_field()?,
-                branch: self.event_field()?,
+                participant: {
+                    let count = limit!(SignedBy, self.participants) as u64;
+                    let four = |p| rule!(false; FarSignersAreFour: p > EVENT_FIELD);
+                    self.number(|p| [(4, four(p)), (6, p >= count)])? as usize
+                },
+                contract: self.event_field(limit!(SignContract, EVENT_FIELD))?,
+                branch: self.event_field(limit!(SignBranch, EVENT_FIELD))?,
             },
             "tell" => Event::Tell {
-                set: self.event_field()?,
-                secret: self.event_field()?,
+                set: self.event_field(limit!(TellSet, EVENT_FIELD))?,
+                secret: self.event_field(limit!(TellSecret, EVENT_FIELD))?,
             },
             "fire" => Event::Fire {
-                contract: self.event_field()?,
-                branch: self.event_field()?,
+                contract: self.event_field(limit!(FireContract, EVENT_FIELD))?,
+                branch: self.event_field(limit!(FireBranch, EVENT_FIELD))?,
             },
             _ => {
-                let contract = self.event_field()?;
-                let branch = self.event_field()?;
+                let contract = self.event_field(limit!(RenewContract, EVENT_FIELD))?;
+                let branch = self.event_field(limit!(RenewBranch, EVENT_FIELD))?;
                 let mut values = Vec::new();
                 // Up to 8 values; a ninth is a field too many.
-                while self.next == Next::Field && (values.len() as u64) < SECRETS {
+                while self.next == Next::Field && (values.len() as u64) < limit!(Values, SECRETS) {
                     values.push(self.value()?);
+                    if rule!(false; NoXInRenewals: values.last() == Some(&Value::IllFormed)) {
+                        return Err(self.refusal(3));
+                    }
+                }
+                if rule!(false; NinthValueRead: self.next == Next::Field) {
+                    self.value()?;
+                    return Err(self.refusal(9));
                 }
                 Event::Renew {
                     contract,
@@ -668,17 +790,17 @@ impl<'a> Reader<'a> {
         Ok(event)
     }
 
-    fn event_field(&mut self) -> Result<usize, Refusal> {
-        Ok(self.ranged(0, EVENT_FIELD)? as usize)
+    fn event_field(&mut self, most: u64) -> Result<usize, Refusal> {
+        Ok(self.ranged(0, most)? as usize)
     }
 }
 
 /// Reads a whole request, before anything is judged.
 pub fn read(request: &[u8]) -> Result<Request, Refusal> {
-    if request.len() > REQUEST_BYTES {
+    if request.len() > limit!(RequestBytes, REQUEST_BYTES) {
         return Err(Refusal {
             number: 1,
-            line: 0,
+            line: rule!(0; OneOnLine1: 1),
             field: 0,
         });
     }
@@ -704,9 +826,17 @@ impl Branch {
     pub fn contracts(&self) -> Vec<usize> {
         match &self.action {
             Action::Withdraw { .. } | Action::Renew { .. } => Vec::new(),
-            Action::Split { parts } => parts.iter().map(|part| part.node).collect(),
+            Action::Split { parts } => {
+                let parts = rule!(&parts[..]; FirstPartOnly: &parts[..1]);
+                let counts = |part: &&Part| rule!(true; WeightlessLeftOut: part.weight > 0);
+                parts.iter().filter(counts).map(|part| part.node).collect()
+            }
             Action::Reveal { next, .. } => vec![*next],
         }
+    }
+
+    pub fn is_renewal(&self) -> bool {
+        matches!(self.action, Action::Renew { .. })
     }
 
     pub fn is_signed_by(&self, participant: usize) -> bool {
@@ -725,32 +855,57 @@ impl Sheet {
 
     /// Is this branch of this node a step own to the participant?
     pub fn is_own(&self, node: usize, branch: usize, participant: usize) -> bool {
-        let owners = &self.definitions[self.nodes[node].definition].owners;
+        let definition = rule!(self.nodes[node].definition; OwnersInDefinition0: 0);
+        let owners = &self.definitions[definition].owners;
         let branch = &self.nodes[node].branches[branch];
-        let signed_by_none_but_them = branch.signers & !(1 << participant) == 0;
+        let signers = branch.signers;
+        let signed_by_none_but_them = rule!(signers & !(1 << participant) == 0;
+            SignersIgnored: true,
+            NoSignerAtAll: signers == 0,
+            MustSign: signers == 1 << participant,
+            AmongTheSigners: signers == 0 || branch.is_signed_by(participant));
         let kind_is_own = match &branch.action {
-            Action::Withdraw { .. } | Action::Split { .. } => true,
+            Action::Withdraw { to } => rule!(true; OthersNotPaid: *to == participant),
+            Action::Split { .. } => rule!(true; SplitsNotOwn: false),
             Action::Reveal {
                 secrets, condition, ..
             } => {
-                *condition == Condition::True
-                    && secrets.iter().all(|secret| owners[*secret] == participant)
+                let theirs = |secret: &usize| owners[*secret] == participant;
+                rule!(*condition == Condition::True;
+                    AnyCondition: true,
+                    TrueConditions: condition.holds(&|_| 0),
+                    RevealsNotOwn: false)
+                    && rule!(secrets.iter().all(theirs);
+                        OwnersIgnored: true,
+                        OneOwnedSuffices: secrets.iter().any(theirs),
+                        FirstOwnedSuffices: theirs(&secrets[0]))
             }
-            Action::Renew { .. } => false,
+            Action::Renew { .. } => rule!(false;
+                RenewalsOwn: true,
+                RenewalsOwnAlone: self.participants == 1),
         };
-        signed_by_none_but_them && kind_is_own
+        let open = rule!(true; MustBeOpen: branch.opens == 0);
+        signed_by_none_but_them && kind_is_own && open
     }
 }
 
 /// For each node: does it occur in some run?  A run may step by any branch, whoever signs.
 pub fn reached(sheet: &Sheet) -> Vec<bool> {
+    reached_by(sheet, |_, _| true)
+}
+
+/// The same by these branches alone.
+fn reached_by(sheet: &Sheet, follows: impl Fn(usize, usize) -> bool) -> Vec<bool> {
     let mut reached = vec![false; sheet.nodes.len()];
-    let mut to_visit = vec![sheet.definitions[0].root];
+    let first = rule!(0; RunsFromTheLast: sheet.definitions.len() - 1);
+    let mut to_visit = vec![sheet.definitions[first].root];
     while let Some(node) = to_visit.pop() {
         if !reached[node] {
             reached[node] = true;
-            for branch in &sheet.nodes[node].branches {
-                to_visit.extend(sheet.replaced_by(branch));
+            for (number, branch) in sheet.nodes[node].branches.iter().enumerate() {
+                if follows(node, number) {
+                    to_visit.extend(sheet.replaced_by(branch));
+                }
             }
         }
     }
@@ -770,15 +925,24 @@ pub fn exits(sheet: &Sheet, participant: usize) -> Vec<Option<Row>> {
                 continue;
             }
             // None if some contract of the branch has no exit.
-            let sum: Option<u64> = branch
-                .contracts()
-                .iter()
-                .map(|part| exits[*part].map(|row| row.rank))
-                .sum();
+            let parts = branch.contracts();
+            let rank_of = |part: &usize| {
+                let rank = exits[*part].map(|row| row.rank);
+                rule!(rank; ExitsNotAsked: rank.or(Some(0)))
+            };
+            let mut ranks = parts.iter().map(rank_of);
+            let sum: Option<u64> = rule!(ranks.sum();
+                MadeByLargest: ranks.try_fold(0, |largest, rank| Some(rank?.max(largest))));
             if let Some(sum) = sum {
-                let rank = 1 + sum;
+                let rank = rule!(1; MadeWithout1: 0) + sum;
                 // Only a lower rank takes the place of an earlier branch.
-                if best.map_or(true, |row| rank < row.rank) {
+                let better = |row: Row| {
+                    rule!(rank < row.rank;
+                        TiesToTheHigher: rank <= row.rank,
+                        FirstBranch: false,
+                        LastBranch: true)
+                };
+                if best.map_or(true, better) {
                     best = Some(Row {
                         node,
                         branch: number,
@@ -787,7 +951,7 @@ pub fn exits(sheet: &Sheet, participant: usize) -> Vec<Option<Row>> {
                 }
             }
         }
-        exits[node] = best;
+        exits[node] = rule!(best; EmptyIsAnExit: best.or(wrong::done(sheet, node)));
     }
     exits
 }
@@ -798,57 +962,106 @@ pub fn exits(sheet: &Sheet, participant: usize) -> Vec<Option<Row>> {
 
 /// The published rows, in rising node order, or the lowest reached node with no exit.
 pub fn make(sheet: &Sheet, participant: usize) -> Result<Vec<Row>, usize> {
-    let reached = reached(sheet);
+    let participant = rule!(participant; MadeForTheFirst: 0);
     let exits = exits(sheet, participant);
-    (0..sheet.nodes.len())
-        .filter(|node| reached[*node])
-        .map(|node| exits[node].ok_or(node))
-        .collect()
+    let branch = |node: usize, number: usize| &sheet.nodes[node].branches[number];
+    let exit = |node: usize, number: usize| exits[node].is_some_and(|row| row.branch == number);
+    let own = |node: usize, number: usize| sheet.is_own(node, number, participant);
+    let reached = rule!(reached(sheet);
+        EveryNode: vec![true; sheet.nodes.len()],
+        RootAlone: reached_by(sheet, |_, _| false),
+        ExitPathOnly: reached_by(sheet, exit),
+        OwnBranchesOnly: reached_by(sheet, own),
+        OpenBranchesOnly: reached_by(sheet, |node, number| branch(node, number).opens == 0),
+        UnsignedBranchesOnly: reached_by(sheet, |node, number| branch(node, number).signers == 0),
+        RenewalsNotFollowed: reached_by(sheet, |node, number| !branch(node, number).is_renewal()));
+    let mut nodes = (0..sheet.nodes.len()).filter(|node| reached[*node]);
+    let frozen = |node: &usize| exits[*node].is_none();
+    let found = rule!(nodes.clone().find(frozen);
+        FrozenOnSight: Some(0),
+        FrozenNamesTheHighest: nodes.rfind(frozen),
+        FrozenNamesTheRoot: nodes.find(frozen).map(|_| 0));
+    match found {
+        Some(node) => Err(node),
+        None => Ok(nodes.filter_map(|node| exits[node]).collect()),
+    }
 }
 
 /// Judges rows from anyone.  `line` is the line of the word `check`.
 pub fn check(sheet: &Sheet, participant: usize, rows: &[Row], line: usize) -> Result<(), Refusal> {
+    let participant = rule!(participant; CheckedForTheFirst: 0);
     let refuse = |number, line| {
+        let field = rule!(0; RowsAtField1: 1);
         Err(Refusal {
             number,
             line,
-            field: 0,
+            field,
         })
     };
-    let line_of = |index: usize| line + 1 + index;
+    let line_of = |index: usize| line + rule!(1; RowLinesOneEarly: 0) + index;
+    rule!((); AllRowsAccepted: return Ok(()), AllRowsDeclined: return refuse(11, line));
 
     // 10 over all rows; `rank_of` then has the rank of each node with a row.
+    let first = rule!(0; RootOfTheLast: sheet.definitions.len() - 1);
+    let root = sheet.definitions[first].root;
+    if rule!(false; RootBeforeTwice: rows.iter().all(|row| row.node != root)) {
+        return refuse(11, line);
+    }
     let mut rank_of: Vec<Option<u64>> = vec![None; sheet.nodes.len()];
     for (index, row) in rows.iter().enumerate() {
-        if rank_of[row.node].is_some() {
+        let twice = rule!(rank_of[row.node].is_some();
+            TwiceRowAllowed: false,
+            TwiceRowByRow: false,
+            SameRowAllowed: rank_of[row.node].is_some() && !rows[..index].contains(row));
+        if twice {
+            let index = rule!(index;
+                TwiceAtTheFirst: wrong::first_of(rows, row.node),
+                TwiceAtTheLast: wrong::last_twice(rows));
             return refuse(10, line_of(index));
         }
         rank_of[row.node] = Some(row.rank);
     }
     // 11 for the root of definition 0.
-    if rank_of[sheet.definitions[0].root].is_none() {
-        return refuse(11, line);
+    if rule!(rank_of[root].is_none(); RootNotAsked: false) {
+        return refuse(11, rule!(line; RootAtTheFirstRow: line_of(0)));
     }
     // Then row by row.
-    for (index, row) in rows.iter().enumerate() {
+    let faults = |(index, row): (usize, &Row)| {
+        let own = |number: &usize| sheet.is_own(row.node, *number, participant);
         let branches = &sheet.nodes[row.node].branches;
-        let needed = branches.iter().flat_map(|branch| sheet.replaced_by(branch));
-        for node in needed {
-            if rank_of[node].is_none() {
-                return refuse(11, line_of(index));
-            }
-        }
-        if !sheet.is_own(row.node, row.branch, participant) {
-            return refuse(12, line_of(index));
-        }
+        let asks = |number: &usize| {
+            rule!(true;
+                RowsOfTheBranchOnly: *number == row.branch,
+                RowsOfOwnOnly: own(number),
+                RowsOfRenewalsNotAsked: !branches[*number].is_renewal())
+        };
+        let asking = (0..branches.len()).filter(asks);
+        let mut needed = asking.flat_map(|number| sheet.replaced_by(&branches[number]));
+        let missing = needed.any(|node| rank_of[node].is_none());
         let parts = branches[row.branch].contracts();
-        // All of them have rows, as was seen above.
-        let sum: u64 = parts.iter().filter_map(|node| rank_of[*node]).sum();
-        if row.rank < 1 + sum {
-            return refuse(13, line_of(index));
-        }
+        let ranks = parts.iter().filter_map(|node| rank_of[*node]);
+        let sum: u64 = rule!(ranks.sum();
+            RankByLargest: ranks.max().unwrap_or(0),
+            RankByPublished: wrong::published(sheet, participant, &parts));
+        let least = rule!(1; RankWithout1: 0) + sum;
+        let too_low = rule!(row.rank < least;
+            RankAnything: false,
+            RankExact: row.rank != least,
+            RankAbove: row.rank <= least,
+            RanksWrap: row.rank < least % 65_536,
+            RanksStop: row.rank < least.min(65_535));
+        let number = lowest([(11, missing), (12, !own(&row.branch)), (13, too_low)]);
+        let number = rule!(number;
+            TwiceRowByRow: if wrong::first_of(rows, row.node) < index { Some(10) } else { number },
+            UnreachedNotJudged: number.filter(|_| reached(sheet)[row.node]));
+        number.map(|number| (number, line_of(index)))
+    };
+    let mut found = rows.iter().enumerate().filter_map(faults);
+    let first = rule!(found.next(); NumberByNumber: found.min_by_key(|(number, _)| *number));
+    match first {
+        Some((number, line)) => refuse(number, line),
+        None => Ok(()),
     }
-    Ok(())
 }
 
 // ---------------------------------------------------------------------------------------------
@@ -902,20 +1115,69 @@ impl Expression {
         match self {
             Expression::Constant(number) => *number as i64,
             Expression::Secret(number) => secret(*number),
-            Expression::Add(left, right) => left.value(secret) + right.value(secret),
-            Expression::Subtract(left, right) => left.value(secret) - right.value(secret),
+            Expression::Add(left, right) => {
+                let (left, right) = (left.value(secret), right.value(secret));
+                rule!(left + right;
+                    AddIsSub: left - right,
+                    AddIn32Bits: i64::from((left + right) as i32))
+            }
+            Expression::Subtract(left, right) => {
+                let (left, right) = (left.value(secret), right.value(secret));
+                rule!(left - right;
+                    SubIsAdd: left + right,
+                    SubAbsolute: (left - right).abs(),
+                    SubClipped: (left - right).max(0),
+                    SubTurned: right - left)
+            }
+        }
+    }
+
+    /// How many fields it has.
+    pub fn fields(&self) -> usize {
+        match self {
+            Expression::Constant(_) | Expression::Secret(_) => 2,
+            Expression::Add(left, right) | Expression::Subtract(left, right) => {
+                1 + left.fields() + right.fields()
+            }
         }
     }
 }
 
 impl Condition {
+    /// How many fields it has.
+    pub fn fields(&self) -> usize {
+        match self {
+            Condition::True => 1,
+            Condition::And(left, right) => 1 + left.fields() + right.fields(),
+            Condition::Not(part) => 1 + part.fields(),
+            Condition::Equal(left, right) | Condition::Less(left, right) => {
+                1 + left.fields() + right.fields()
+            }
+        }
+    }
+
     pub fn holds(&self, secret: &impl Fn(usize) -> i64) -> bool {
         match self {
-            Condition::True => true,
-            Condition::And(left, right) => left.holds(secret) && right.holds(secret),
-            Condition::Not(part) => !part.holds(secret),
-            Condition::Equal(left, right) => left.value(secret) == right.value(secret),
-            Condition::Less(left, right) => left.value(secret) < right.value(secret),
+            Condition::True => rule!(true; TrueIsFalse: false),
+            Condition::And(left, right) => {
+                let (left, right) = (left.holds(secret), right.holds(secret));
+                rule!(left && right; AndIsOr: left || right, AndIsLeft: left, AndIsRight: right)
+            }
+            Condition::Not(part) => rule!(!part.holds(secret); NotIsNothing: part.holds(secret)),
+            Condition::Equal(left, right) => {
+                let (left, right) = (left.value(secret), right.value(secret));
+                rule!(left == right;
+                    EqIsUnequal: left != right,
+                    EqIsAtMost: left <= right,
+                    EqIsAtLeast: left >= right)
+            }
+            Condition::Less(left, right) => {
+                let (left, right) = (left.value(secret), right.value(secret));
+                rule!(left < right;
+                    LtIsGreater: left > right,
+                    LtIsAtMost: left <= right,
+                    LtIsUnequal: left != right)
+            }
         }
     }
 }
@@ -923,42 +1185,51 @@ impl Condition {
 impl Ledger {
     /// The ledger at stipulation.
     pub fn stipulate(sheet: &Sheet, values: &[Value]) -> Ledger {
-        let first = &sheet.definitions[0];
-        let deposits: u64 = first.deposits.iter().sum();
+        let first = rule!(0; StipulatedAsTheLast: sheet.definitions.len() - 1);
+        let first = &sheet.definitions[first];
+        let deposits: u64 = rule!(first.deposits.iter().sum(); FirstDepositOnly: first.deposits[0]);
         let mut ledger = Ledger {
             time: 0,
             contracts: Vec::new(),
             sets: vec![commit(values)],
             paid: vec![0; sheet.participants],
-            deposits_taken: deposits,
+            deposits_taken: rule!(deposits; StipulationNotCounted: 0),
         };
         ledger.add_contract(sheet, first.root, deposits, 0);
         ledger
     }
 
     fn add_contract(&mut self, sheet: &Sheet, node: usize, balance: u64, set: usize) {
-        let signed = vec![0; sheet.nodes[node].branches.len()];
-        self.contracts.push(Contract {
+        let count = sheet.nodes[node].branches.len();
+        let made = Contract {
             node,
             balance,
             set,
-            signed,
+            signed: rule!(vec![0; count]; BornSigned: vec![u64::MAX; count]),
             alive: true,
-        });
+        };
+        let free = rule!(None; NumbersGivenTwice: self.contracts.iter().position(|old| !old.alive));
+        match free {
+            Some(number) => self.contracts[number] = made,
+            None => self.contracts.push(made),
+        }
     }
 
-    /// The branch of a live contract, if there are such a contract and such a branch.
+    /// The branch of a contract, if there are such a contract and such a branch.
+    fn branch<'s>(&self, sheet: &'s Sheet, contract: usize, branch: usize) -> Option<&'s Branch> {
+        let contract = self.contracts.get(contract)?;
+        sheet.nodes[contract.node].branches.get(branch)
+    }
+
+    /// The same for a live contract.
     fn live_branch<'s>(
         &self,
         sheet: &'s Sheet,
         contract: usize,
         branch: usize,
     ) -> Option<&'s Branch> {
-        let contract = self
-            .contracts
-            .get(contract)
-            .filter(|contract| contract.alive)?;
-        sheet.nodes[contract.node].branches.get(branch)
+        self.branch(sheet, contract, branch)
+            .filter(|_| self.contracts[contract].alive)
     }
 
     pub fn live_contracts(&self) -> usize {
@@ -971,53 +1242,72 @@ impl Ledger {
     /// The lowest number for which the event is refused, or none if it is taken.
     pub fn refusal(&self, sheet: &Sheet, event: &Event) -> Option<u32> {
         match event {
-            Event::Wait { delay } => lowest([(19, self.time + delay > TIME)]),
+            Event::Wait { delay } => lowest([(19, self.time + delay > limit!(Time, TIME))]),
             Event::Sign {
                 participant,
                 contract,
                 branch,
             } => {
-                let Some(signable) = self.live_branch(sheet, *contract, *branch) else {
+                let signable = rule!(self.live_branch(sheet, *contract, *branch);
+                    DeadSigned: self.branch(sheet, *contract, *branch));
+                let Some(signable) = signable else {
                     return Some(14);
                 };
                 let signed = self.contracts[*contract].signed[*branch];
-                let signed_already = signed >> participant & 1 == 1;
-                lowest([
-                    (16, !signable.is_signed_by(*participant)),
-                    (16, signed_already),
-                ])
+                let signer = rule!(signable.is_signed_by(*participant); AnyoneSigns: true);
+                let already = rule!(signed >> participant & 1 == 1;
+                    SignedTwice: false,
+                    SignedTwiceAfterOthers: signed == 1 << participant);
+                let early = rule!(false; SignedWhenOpen: signable.opens > self.time);
+                let of_kind = rule!(true; RenewalsNotSigned: !signable.is_renewal());
+                lowest([(14, !of_kind), (15, early), (16, !signer), (16, already)])
             }
             Event::Tell { set, secret } => {
-                let commitment = self.sets.get(*set).and_then(|set| set.get(*secret));
+                let set = rule!(*set; ToldByContract: wrong::set_of(&self.contracts, *set));
+                let commitment = self.sets.get(set).and_then(|set| set.get(*secret));
                 let can_be_told = match commitment {
                     Some(Commitment {
                         value: Value::Number(_),
                         told,
-                    }) => !told,
-                    _ => false,
+                    }) => rule!(!told; ToldTwice: true),
+                    Some(_) => rule!(false; IllFormedTold: true),
+                    None => rule!(false; UnknownTold: true),
                 };
-                lowest([(17, !can_be_told)])
+                let live = rule!(true; DeadNotTold: wrong::set_lives(&self.contracts, set));
+                let known = rule!(true;
+                    UnknownSetIs14: set < self.sets.len(),
+                    UnknownSecretIs14: commitment.is_some());
+                lowest([(14, !known), (17, !can_be_told), (17, !live)])
             }
             Event::Fire { contract, branch } => {
-                let Some(fired) = self.live_branch(sheet, *contract, *branch) else {
-                    return Some(14);
+                let fired = rule!(self.live_branch(sheet, *contract, *branch);
+                    DeadFired: self.branch(sheet, *contract, *branch));
+                let Some(fired) = fired else {
+                    return Some(rule!(14; NoBranchIs16: 16));
                 };
                 // How many contracts the firing makes.
                 let parts = match &fired.action {
-                    Action::Withdraw { .. } => 0,
-                    Action::Split { parts } => parts.len(),
-                    Action::Reveal { .. } => 1,
-                    Action::Renew { .. } => return Some(14),
+                    Action::Withdraw { .. } => rule!(0; WithdrawalsMake: 1),
+                    Action::Split { parts } => rule!(parts.len(); SplitsMakeOne: 1),
+                    Action::Reveal { .. } => rule!(1; RevealsMakeNone: 0),
+                    Action::Renew { .. } => 0,
                 };
-                let signed = self.contracts[*contract].signed[*branch];
+                let early = rule!(fired.opens > self.time;
+                    FiredAfterOpening: fired.opens > 0 && fired.opens >= self.time,
+                    FiredEarly: false);
+                let (signers, signed) = (fired.signers, self.contracts[*contract].signed[*branch]);
+                let unsigned = rule!(signers & !signed != 0;
+                    OneSignerSuffices: signers != 0 && signers & signed == 0,
+                    FiredUnsigned: false);
+                let untold = !self.secrets_allow(*contract, &fired.action);
+                let made = rule!(self.contracts.len(); LiveCounted: self.live_contracts() - 1);
+                let no_room = made + parts > limit!(ContractsMade, CONTRACTS_MADE);
                 lowest([
-                    (15, fired.opens > self.time),
-                    (16, fired.signers & !signed != 0),
-                    (17, !self.secrets_allow(*contract, &fired.action)),
-                    (
-                        19,
-                        parts > 0 && self.contracts.len() + parts > CONTRACTS_MADE,
-                    ),
+                    (14, fired.is_renewal()),
+                    (15, early),
+                    (16, unsigned),
+                    (17, untold),
+                    (19, no_room),
                 ])
             }
             Event::Renew {
@@ -1025,24 +1315,44 @@ impl Ledger {
                 branch,
                 values,
             } => {
-                let Some(Branch {
-                    signers,
-                    opens,
-                    action: Action::Renew { definition },
-                }) = self.live_branch(sheet, *contract, *branch)
-                else {
+                let renewed = rule!(self.live_branch(sheet, *contract, *branch);
+                    DeadRenewed: self.branch(sheet, *contract, *branch));
+                let Some(renewed) = renewed else {
                     return Some(14);
                 };
+                let own = sheet.nodes[self.contracts[*contract].node].definition;
+                let number = match renewed.action {
+                    Action::Renew { definition } => definition,
+                    _ => own,
+                };
+                let definition = &sheet.definitions[number];
+                let early = rule!(renewed.opens > self.time;
+                    RenewedAfterOpening: renewed.opens > 0 && renewed.opens >= self.time,
+                    RenewedEarly: false);
+                let signers = rule!(renewed.signers; AllRenew: (1 << sheet.participants) - 1);
                 let signed = self.contracts[*contract].signed[*branch];
-                let renewed = &sheet.definitions[*definition];
-                let deposits: u64 = renewed.deposits.iter().sum();
+                let unsigned = rule!(signers & !signed != 0;
+                    OneRenewerSuffices: signers != 0 && signers & signed == 0,
+                    RenewedUnsigned: false);
+                let secrets = rule!(definition.owners.len();
+                    ValuesOfTheOld: sheet.definitions[own].owners.len());
+                let wrong_count = rule!(values.len() != secrets;
+                    FewerValuesTaken: values.len() > secrets,
+                    MoreValuesTaken: values.len() < secrets);
+                let made = rule!(self.contracts.len(); LiveCounted: self.live_contracts() - 1);
+                let made = made + rule!(1; RenewalsMakeNone: 0);
+                let sets = rule!(self.sets.len(); EmptySetsNotCounted: wrong::filled(&self.sets));
+                let deposits: u64 = definition.deposits.iter().sum();
+                let taken = rule!(self.deposits_taken; HeldCounted: wrong::held(&self.contracts));
+                let too_much = taken + deposits > limit!(DepositsTaken, SATOSHI);
                 lowest([
-                    (15, *opens > self.time),
-                    (16, signers & !signed != 0),
-                    (18, values.len() != renewed.owners.len()),
-                    (19, self.contracts.len() + 1 > CONTRACTS_MADE),
-                    (19, self.sets.len() + 1 > SETS_MADE),
-                    (19, self.deposits_taken + deposits > SATOSHI),
+                    (14, !renewed.is_renewal()),
+                    (15, early),
+                    (16, unsigned),
+                    (18, wrong_count),
+                    (19, made > limit!(ContractsMade, CONTRACTS_MADE)),
+                    (19, sets + 1 > limit!(SetsMade, SETS_MADE)),
+                    (19, too_much),
                 ])
             }
         }
@@ -1057,31 +1367,52 @@ impl Ledger {
         else {
             return true;
         };
-        let set = &self.sets[self.contracts[contract].set];
-        let all_told = secrets.iter().all(|secret| set[*secret].told);
+        let set = rule!(self.contracts[contract].set;
+            FirstSetServes: 0,
+            NewestSetServes: self.sets.len() - 1);
+        let set = &self.sets[set];
+        let told = |secret: &usize| set[*secret].told;
+        let all_told = rule!(secrets.iter().all(told);
+            UntoldServe: true,
+            OneToldSuffices: secrets.iter().any(told),
+            FirstToldSuffices: told(&secrets[0]),
+            NamedToldSuffice: secrets.iter().all(|it| told(it) || !wrong::names(condition, *it)),
+            OldSetsServe: secrets.iter().all(|secret| wrong::told_anywhere(&self.sets, *secret)));
         // A condition names only listed secrets, and only a number can be told.
         let value = |secret: usize| match set[secret].value {
             Value::Number(number) => number as i64,
-            Value::IllFormed => unreachable!("an ill-formed commitment was told"),
+            Value::IllFormed => rule!(unreachable!("an ill-formed commitment was told");
+                IllFormedTold: 0,
+                UntoldServe: 0),
         };
-        all_told && condition.holds(&value)
+        all_told && rule!(condition.holds(&value); ConditionsNotAsked: true)
     }
 
     /// Takes the event, or gives the number for which it is refused and leaves the ledger the same.
     pub fn step(&mut self, sheet: &Sheet, event: &Event) -> Result<(), u32> {
         if let Some(number) = self.refusal(sheet, event) {
+            rule!(();
+                RefusedFiringsKill: wrong::kill(&mut self.contracts, event),
+                RefusedWaitsMove: if let Event::Wait { .. } = event { self.time = TIME });
             return Err(number);
         }
         match event {
-            Event::Wait { delay } => self.time += delay,
+            Event::Wait { delay } => self.time = rule!(self.time; WaitsFromZero: 0) + delay,
             Event::Sign {
                 participant,
                 contract,
                 branch,
             } => {
-                self.contracts[*contract].signed[*branch] |= 1 << participant;
+                let signed = rule!(1 << participant; OneSignsForAll: u64::MAX);
+                self.contracts[*contract].signed[*branch] |= signed;
+                rule!((); SignsEveryBranch: self.contracts[*contract].signed.fill(signed));
             }
-            Event::Tell { set, secret } => self.sets[*set][*secret].told = true,
+            Event::Tell { set, secret } => {
+                self.sets[*set][*secret].told = true;
+                rule!(();
+                    TellsEverySecret: wrong::tell_every_secret(&mut self.sets[*set]),
+                    TellsInEverySet: wrong::tell_in_every_set(&mut self.sets, *secret));
+            }
             Event::Fire { contract, branch } => self.fire(sheet, *contract, *branch),
             Event::Renew {
                 contract,
@@ -1096,44 +1427,73 @@ impl Ledger {
         let Contract {
             node, balance, set, ..
         } = self.contracts[contract];
-        self.contracts[contract].alive = false;
+        self.contracts[contract].alive = rule!(false; FiredLivesOn: true);
+        let set = rule!(set; PartsOfTheFirstSet: 0);
+        let before = self.contracts.len();
         match &sheet.nodes[node].branches[branch].action {
-            Action::Withdraw { to } => self.paid[*to] += balance,
+            Action::Withdraw { to } => {
+                let to = rule!(*to; PaidToTheFirst: 0);
+                self.paid[to] = rule!(self.paid[to]; PaidAnew: 0) + balance;
+            }
             Action::Reveal { next, .. } => self.add_contract(sheet, *next, balance, set),
             Action::Split { parts } => {
                 let weights: u64 = parts.iter().map(|part| part.weight).sum();
+                let weights = rule!(weights;
+                    WeightsPerMille: 1_000,
+                    WeightsAlike: parts.len() as u64);
                 let mut shares: Vec<u64> = parts
                     .iter()
                     .map(|part| {
-                        let share =
-                            u128::from(balance) * u128::from(part.weight) / u128::from(weights);
+                        let weight = rule!(part.weight; WeightsAlike: 1);
+                        let product = u128::from(balance) * u128::from(weight);
+                        let weights = u128::from(weights);
+                        let share = rule!(product / weights;
+                            SharesRoundedUp: product.div_ceil(weights),
+                            SharesRounded: (product + weights / 2) / weights,
+                            SharesDividedFirst: u128::from(balance) / weights * u128::from(weight));
                         share as u64
                     })
                     .collect();
-                let remainder = balance - shares.iter().sum::<u64>();
-                if let Some(last) = shares.last_mut() {
-                    *last += remainder;
-                }
-                for (part, share) in parts.iter().zip(shares) {
-                    self.add_contract(sheet, part.node, share, set);
+                rule!((); SharesOfTheRest: shares = wrong::shares_of_the_rest(balance, parts));
+                let remainder = balance.wrapping_sub(shares.iter().sum::<u64>());
+                let last = parts.len() - 1;
+                let weighty = || parts.iter().rposition(|part| part.weight > 0);
+                let taker = rule!(last;
+                    RemainderToTheFirst: 0,
+                    RemainderToTheWeighty: weighty().unwrap_or(last));
+                shares[taker] = shares[taker].wrapping_add(rule!(remainder; RemainderLost: 0));
+                rule!((); PartsBackwards: shares.reverse());
+                for (place, share) in shares.into_iter().enumerate() {
+                    let node = parts[rule!(place; PartsBackwards: last - place)].node;
+                    self.add_contract(sheet, node, share, set);
                 }
             }
             Action::Renew { .. } => unreachable!("a renewal was fired"),
         }
+        rule!((); SignaturesKept: wrong::keep_signatures(&mut self.contracts, contract, before));
     }
 
     fn renew(&mut self, sheet: &Sheet, contract: usize, branch: usize, values: &[Value]) {
-        let Contract { node, balance, .. } = self.contracts[contract];
+        let Contract {
+            node, balance, set, ..
+        } = self.contracts[contract];
         let Action::Renew { definition } = sheet.nodes[node].branches[branch].action else {
             unreachable!("a branch of another kind was renewed");
         };
-        let renewed = &sheet.definitions[definition];
-        let deposits: u64 = renewed.deposits.iter().sum();
-        self.contracts[contract].alive = false;
-        self.deposits_taken += deposits;
-        let set = self.sets.len();
+        let old = sheet.nodes[node].definition;
+        let to = rule!(definition; RenewedAsTheFirst: 0, RenewedAsTheOld: old);
+        let from = rule!(definition; DepositsOfTheFirst: 0, DepositsOfTheOld: old);
+        let deposits: u64 = sheet.definitions[from].deposits.iter().sum();
+        let before = self.contracts.len();
+        self.contracts[contract].alive = rule!(false; RenewedLivesOn: true);
+        self.deposits_taken += rule!(deposits; RenewalsNotCounted: 0);
         self.sets.push(commit(values));
-        self.add_contract(sheet, renewed.root, balance + deposits, set);
+        rule!((); RenewedStaysTold: wrong::stay_told(&mut self.sets, set));
+        let set = rule!(self.sets.len() - 1; OldSetKept: set);
+        let balance = rule!(balance + deposits; NoDepositsAdded: balance, BalanceLeftOut: deposits);
+        self.add_contract(sheet, sheet.definitions[to].root, balance, set);
+        rule!(();
+            RenewedSignaturesKept: wrong::keep_signatures(&mut self.contracts, contract, before));
     }
 }
 
@@ -1188,28 +1548,41 @@ fn buffer(rows: &[Row]) -> Vec<(u64, u64, u64)> {
 pub fn judge(request: &[u8]) -> (Reply, Vec<(u64, u64, u64)>) {
     let Request { sheet, part, line } = match read(request) {
         Ok(request) => request,
-        Err(refusal) => return (refusal.into(), Vec::new()),
+        Err(refusal) => {
+            let reply = refusal.into();
+            let reply = rule!(reply; JudgedWhileReading: wrong::judged_before(request, reply));
+            return (reply, Vec::new());
+        }
     };
     match part {
         LastPart::Make { participant } => match make(&sheet, participant) {
             Ok(rows) => {
                 let mut text = String::new();
                 for Row { node, branch, rank } in &rows {
+                    let definition = sheet.nodes[*node].definition;
+                    let node = rule!(*node;
+                        NumberedFrom1: node + 1,
+                        NumberedByDefinition: node - sheet.definitions[definition].root,
+                        NumberedPartsFirst: wrong::parts_first(&sheet, *node));
                     text += &format!("row,{node},{branch},{rank}\n");
                 }
                 text += &liquid(&sheet, participant, &rows);
                 (Reply::Text(text), buffer(&rows))
             }
-            Err(node) => (
-                Reply::Text(format!("frozen,{participant},{node}\n")),
-                Vec::new(),
-            ),
+            Err(node) => {
+                let found = || exits(&sheet, participant).into_iter().flatten();
+                let rows = rule!(String::new(); FrozenWithRows: wrong::rows_as_text(found()));
+                let text = format!("{rows}frozen,{participant},{node}\n");
+                (Reply::Text(text), Vec::new())
+            }
         },
         LastPart::Check { participant, rows } => match check(&sheet, participant, &rows, line) {
-            Ok(()) => (
-                Reply::Text(liquid(&sheet, participant, &rows)),
-                buffer(&rows),
-            ),
+            Ok(()) => {
+                let given = rule!(String::new();
+                    CheckPrintsRows: wrong::rows_as_text(rows.iter().copied()));
+                let text = given + &liquid(&sheet, participant, &rows);
+                (Reply::Text(text), buffer(&rows))
+            }
             Err(refusal) => (refusal.into(), Vec::new()),
         },
         LastPart::Play { values, events } => (
@@ -1222,11 +1595,16 @@ pub fn judge(request: &[u8]) -> (Reply, Vec<(u64, u64, u64)>) {
 /// The `liquid` line: participant, count of rows, rank of node 0.
 fn liquid(sheet: &Sheet, participant: usize, rows: &[Row]) -> String {
     let root = sheet.definitions[0].root;
-    let rank = rows
-        .iter()
-        .find(|row| row.node == root)
-        .map_or(0, |row| row.rank);
-    format!("liquid,{participant},{},{rank}\n", rows.len())
+    let row = rows.iter().find(|row| row.node == root);
+    let rank = rule!(row; RankOfTheFirstRow: rows.first()).map_or(0, |row| row.rank);
+    let rank = rule!(rank;
+        RankAsPublished: exits(sheet, participant)[root].map_or(0, |row| row.rank),
+        RankLargest: rows.iter().map(|row| row.rank).max().unwrap_or(0));
+    let reached = |row: &&Row| reached(sheet)[row.node];
+    let count = rule!(rows.len();
+        ReachedRowsCounted: rows.iter().filter(reached).count(),
+        NodesCounted: sheet.nodes.len());
+    format!("liquid,{participant},{count},{rank}\n")
 }
 
 /// The lines of a play whose word `play` stands on `line`.
@@ -1234,12 +1612,25 @@ fn play(sheet: &Sheet, values: &[Value], events: &[Event], line: usize) -> Strin
     let mut ledger = Ledger::stipulate(sheet, values);
     let mut text = String::new();
     for (index, event) in events.iter().enumerate() {
-        match ledger.step(sheet, event) {
+        let taken = rule!(ledger.step(sheet, event);
+            TakenAfterTheFirst: if index > 0 { Ok(()) } else { ledger.step(sheet, event) },
+            NineteenOnSight: Err(19));
+        match taken {
             Ok(()) => text += "taken\n",
-            Err(number) => text += &format!("refused,{number},{},0\n", line + 1 + index),
+            Err(number) => {
+                let before = rule!(line; EventLinesFromPlay: 0, EventLinesOneEarly: line - 1);
+                let line = before + 1 + index;
+                text += &format!("refused,{number},{line}");
+                text += rule!(",0\n"; EventsAtField1: ",1\n");
+                if rule!(false; RefusalEndsPlay: true) {
+                    break;
+                }
+            }
         }
     }
-    text += &format!("end,{},{}", ledger.time, ledger.live_contracts());
+    let live = rule!(ledger.live_contracts(); MadePrinted: ledger.contracts.len());
+    text += &format!("end,{},{live}", ledger.time);
+    rule!((); PaidBackwards: ledger.paid.reverse());
     for paid in &ledger.paid {
         text += &format!(",{paid}");
     }

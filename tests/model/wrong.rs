@@ -1,0 +1,699 @@
+//! Wrong rules: for each rule of document 01 ways to misread it.
+//!
+//! The model names them where they apply: `rule!(right; Name: wrong, ..)` for a rule, `limit!(Name, most)`
+//! for a limit, which is also tried one higher and one lower, and `lower!(one, other)` for the order of
+//! two refusals.  Without `--cfg wrong_rules` these are the right expression and nothing else is run.  With it
+//! one wrong rule at a time can be turned on, and pins.rs shows that some case then has another answer.
+
+use super::{
+    exits, judge, Action, Branch, Commitment, Condition, Contract, Event, Expression, Node, Part,
+    Reply, Row, Sheet,
+};
+
+#[cfg(not(wrong_rules))]
+macro_rules! rule {
+    ($right:expr; $($name:ident: $wrong:expr),+ $(,)?) => { $(if false { $wrong } else)+ { $right } };
+}
+#[cfg(not(wrong_rules))]
+macro_rules! limit {
+    ($name:ident, $most:expr) => {
+        $most
+    };
+}
+#[cfg(not(wrong_rules))]
+macro_rules! lower {
+    ($one:expr, $other:expr) => {
+        $one.min($other)
+    };
+}
+
+#[cfg(wrong_rules)]
+macro_rules! rule {
+    ($right:expr; $($name:ident: $wrong:expr),+ $(,)?) => {
+        match wrong::rule() { $(Some(wrong::Rule::$name) => $wrong,)+ _ => $right }
+    };
+}
+#[cfg(wrong_rules)]
+macro_rules! limit {
+    ($name:ident, $most:expr) => {
+        match wrong::on() {
+            Some(wrong::Wrong::More(wrong::Limit::$name)) => $most + 1,
+            Some(wrong::Wrong::Fewer(wrong::Limit::$name)) => $most - if $most > 0 { 1 } else { 0 },
+            _ => $most,
+        }
+    };
+}
+#[cfg(wrong_rules)]
+macro_rules! lower {
+    ($one:expr, $other:expr) => {
+        wrong::lower($one, $other)
+    };
+}
+
+#[cfg(wrong_rules)]
+pub use switch::*;
+
+#[cfg(wrong_rules)]
+mod switch {
+    use std::cell::Cell;
+
+    /// One way to be wrong.
+    #[derive(Clone, Copy, Debug, PartialEq, Eq)]
+    pub enum Wrong {
+        Rule(Rule),
+        /// The limit is one higher.
+        More(Limit),
+        /// The limit is one lower.
+        Fewer(Limit),
+        /// Of these two refusals the first, the higher number, is given where both apply.
+        Order(u32, u32),
+    }
+
+    thread_local! {
+        static ON: Cell<Option<Wrong>> = const { Cell::new(None) };
+    }
+
+    /// The wrong rule that is on.
+    pub fn on() -> Option<Wrong> {
+        ON.get()
+    }
+
+    pub fn turn(wrong: Option<Wrong>) {
+        ON.set(wrong);
+    }
+
+    pub fn rule() -> Option<Rule> {
+        match on() {
+            Some(Wrong::Rule(rule)) => Some(rule),
+            _ => None,
+        }
+    }
+
+    /// The lower of two refusals, or the higher where just these two are in the wrong order.
+    pub fn lower(one: u32, other: u32) -> u32 {
+        let (lower, higher) = (one.min(other), one.max(other));
+        match on() {
+            Some(Wrong::Order(first, second)) if (first, second) == (higher, lower) => higher,
+            _ => lower,
+        }
+    }
+
+    /// All of them.
+    pub fn all() -> Vec<Wrong> {
+        let limits = Limit::ALL.iter().map(|(limit, _)| *limit);
+        let limits = limits.flat_map(|limit| [Wrong::More(limit), Wrong::Fewer(limit)]);
+        let orders = ORDERS.iter().map(|pair| Wrong::Order(pair.0, pair.1));
+        let rules = Rule::ALL.iter().map(|(rule, _)| Wrong::Rule(*rule));
+        limits.chain(orders).chain(rules).collect()
+    }
+
+    /// The words of a table for one of its names.
+    fn words<T: PartialEq>(table: &[(T, &'static str)], name: &T) -> &'static str {
+        let found = table.iter().find(|(other, _)| other == name);
+        found.map_or("", |(_, words)| words)
+    }
+
+    impl Wrong {
+        /// What it says, in words.
+        pub fn says(&self) -> String {
+            match self {
+                Wrong::Rule(rule) => words(Rule::ALL, rule).to_string(),
+                Wrong::More(limit) => format!("{}, and one more", words(Limit::ALL, limit)),
+                Wrong::Fewer(limit) => format!("{}, but one", words(Limit::ALL, limit)),
+                Wrong::Order(first, second) => format!("{first} comes before {second}"),
+            }
+        }
+    }
+
+    macro_rules! table {
+        ($kind:ident: $($name:ident $words:literal)+) => {
+            #[derive(Clone, Copy, Debug, PartialEq, Eq)]
+            pub enum $kind { $($name),+ }
+            impl $kind {
+                pub const ALL: &'static [($kind, &'static str)] = &[$(($kind::$name, $words)),+];
+            }
+        };
+    }
+
+    /// These need requests so long that only cases.rs has them, not the lists.
+    pub const LARGE: &[Wrong] = &[
+        Wrong::More(Limit::Nodes),
+        Wrong::Fewer(Limit::Nodes),
+        Wrong::More(Limit::Branches),
+        Wrong::Fewer(Limit::Branches),
+        Wrong::More(Limit::Rows),
+        Wrong::Fewer(Limit::Rows),
+        Wrong::Order(7, 5),
+        Wrong::Order(8, 7),
+        Wrong::Rule(Rule::NodesByDefinition),
+        Wrong::Rule(Rule::BranchesByDefinition),
+        Wrong::Rule(Rule::BranchesForetold),
+    ];
+
+    /// Pairs of refusals that may both apply at one field, row or event.
+    const ORDERS: &[(u32, u32)] = &[
+        (4, 3),
+        (6, 3),
+        (7, 3),
+        (7, 4),
+        (7, 5),
+        (7, 6),
+        (8, 7),
+        (9, 7),
+        (12, 11),
+        (13, 11),
+        (13, 12),
+        (15, 14),
+        (16, 14),
+        (16, 15),
+        (17, 15),
+        (17, 16),
+        (18, 14),
+        (18, 15),
+        (18, 16),
+        (19, 15),
+        (19, 16),
+        (19, 17),
+        (19, 18),
+    ];
+
+    table! { Limit:
+        Digits "19 digits of a number"
+        LeastParticipants "1 participant at least"
+        Participants "16 participants"
+        LeastDefinitions "1 definition at least"
+        Definitions "32 definitions"
+        Deposit "2,100,000,000,000,000 of one deposit"
+        Deposits "2,100,000,000,000,000 of a definition's deposits together"
+        Secrets "8 secrets of a definition"
+        Owner "owners of secrets below K"
+        BranchesOfANode "16 branches of a contract"
+        Signers "signers below 2^K"
+        OpeningTime "opening times up to 4,294,967,295"
+        PaidTo "the participant of a `w` below K"
+        RenewedAs "the definition of a `g` below F"
+        LeastParts "1 part of an `s` at least"
+        Parts "8 parts of an `s`"
+        Weight "weights up to 1,000"
+        LeastListed "1 secret of an `r` at least"
+        Listed "8 secrets of an `r`"
+        ListedSecret "secrets of an `r` below the definition's count"
+        Constant "constants up to 1,000,000,000"
+        FieldsAtCondition "64 fields in a condition, at the word of a condition"
+        FieldsAtExpression "64 fields in a condition, at the word of an expression"
+        FieldsAtConstant "64 fields in a condition, at a constant"
+        FieldsAtSecret "64 fields in a condition, at a secret"
+        Nodes "512 nodes"
+        Branches "1,024 branches"
+        Depth "contracts 32 deep"
+        SheetBytes "32,768 bytes of a sheet"
+        RequestBytes "65,536 bytes of a request"
+        Maker "the participant of `make` below K"
+        CheckedFor "the participant of `check` below K"
+        Rows "512 rows"
+        RowNode "the node of a row below the count of nodes"
+        RowBranch "the branch of a row below its node's count"
+        LeastRank "ranks from 1"
+        Rank "ranks up to 65,535"
+        Value "values up to 1,000,000,000"
+        Values "8 values of a `renew`"
+        LeastWait "waits from 1"
+        Wait "waits up to 4,294,967,295"
+        SignedBy "the participant of a `sign` below K"
+        SignContract "c of a `sign` up to 65,535"
+        SignBranch "b of a `sign` up to 65,535"
+        TellSet "i of a `tell` up to 65,535"
+        TellSecret "j of a `tell` up to 65,535"
+        FireContract "c of a `fire` up to 65,535"
+        FireBranch "b of a `fire` up to 65,535"
+        RenewContract "c of a `renew` up to 65,535"
+        RenewBranch "b of a `renew` up to 65,535"
+        Time "time up to 4,294,967,295"
+        ContractsMade "256 contracts made"
+        SetsMade "32 sets made"
+        DepositsTaken "2,100,000,000,000,000 of all deposits taken"
+    }
+
+    table! { Rule:
+        // fields and lines
+        PlusSign "a number may have a plus sign"
+        EmptyIsZero "an empty field is the number 0"
+        LeadingZeros "a number may have leading zeros"
+        ZeroIsNone "0 itself has a leading zero"
+        NumbersIn32Bits "a number wraps at 32 bits"
+        Spaces "spaces around a field don't count"
+        Quotes "a field may have quotes"
+        CarriageReturns "a CR before the LF doesn't count"
+        Capitals "words may have capitals"
+        LongerWords "a word may go on"
+        LinesFrom0 "lines count from 0"
+        FieldsFrom0 "fields count from 0"
+        EmptyLinesSkipped "empty lines are skipped"
+        MissingLineBefore "a missing line is told on the line before it"
+        MissingAtTheLast "a missing field is told at the field before it"
+        MissingIsThree "a missing field gets 3"
+        EmptyIsMissing "an empty field gets 2"
+        EmptyLastIsMissing "an empty field after the last comma gets 2"
+        FinalLfNotAsked "the final LF may be missing"
+        MissingLfAtTheLast "a missing LF is told at the last field"
+        ExtraIsThree "a field too many gets 3"
+        ExtraEmptyIsThree "an empty field too many gets 3"
+        ExtraEmptyIgnored "an empty field too many is no field"
+        ExtraIgnored "a field too many is not read"
+        ExtraLineIsThree "a line too many gets 3"
+        MoreLinesAllowed "lines after that of `make` are not read"
+        EmptyLineAllowed "an empty line after that of `make` is no line"
+        RangeIsSix "what is beyond its range gets 6"
+        ThingIsFour "no such thing gets 4"
+        EndsNotCounted "a field's comma or LF is not among the sheet's bytes"
+        MissingEndCounted "a missing comma or LF is among the sheet's bytes"
+        WholeRequestLimited "the last part is under the limit of the sheet's bytes too"
+        OneOnLine1 "too long a request is told on line 1"
+        // the sheet
+        MoreDefinitionsRead "more `def` lines than F are read"
+        DepositFrom1 "a deposit is 1 at least"
+        DepositsOfAll "the deposits of all definitions are under the limit of one"
+        SumAtTheLast "too large a sum of deposits is told at the last deposit"
+        SumIsFour "too large a sum of deposits gets 4"
+        SecretsFrom1 "a definition has 1 secret at least"
+        BranchesFrom1 "a contract has 1 branch at least"
+        SignersIsFour "2^K signers get 4"
+        SignersBackwards "2^p stands for the p-th participant from the last"
+        NodesByDefinition "the limit of nodes is one of each definition"
+        BranchesByDefinition "the limit of branches is one of each definition"
+        BranchesForetold "too many branches are told at their count"
+        OpensFrom1 "an opening time is 1 at least"
+        NoLaterDefinition "`g` can't name a later definition"
+        WeightFrom1 "a weight is 1 at least"
+        EachWeightFrom1 "the last weight must not be 0"
+        ZeroSumAllowed "weights may add to 0"
+        ZeroSumAtTheFirst "8 is told at the first weight"
+        ZeroSumAfter "8 is told after the last contract"
+        SplitsNotDeeper "the parts of an `s` are no deeper"
+        RevealsNotDeeper "the contract of an `r` is no deeper"
+        SecretsOfDefinition0 "the secrets of an `r` are those of definition 0"
+        ListedAsOwned "an `r` lists as many secrets as the definition has at most, else 4"
+        TwiceAllowed "an `r` may list a secret twice"
+        TwiceInARowOnly "an `r` may list a secret twice with another between"
+        AnySecretNamed "`v` may name any secret of the definition"
+        NamedByPlace "`v` names a secret by its place in the `r`"
+        FieldsOfAllConditions "the fields of all conditions are under the limit of one"
+        SecretsAreFields "the secrets of an `r` are fields of its condition"
+        NumbersNotCounted "the numbers in a condition are no fields of it"
+        ConstantFrom1 "a constant is 1 at least"
+        // the last part
+        ValuesOfTheLast "`play` has a value for each secret of the last definition"
+        ValueFrom1 "a value is 1 at least"
+        NoXInRenewals "`renew` takes no `x`"
+        NinthValueRead "a ninth value is read before it is too many"
+        FarSignersAreFour "`sign` by a participant above 65,535 gets 4"
+        RowBranchOfAny "the branch of a row is any number below 16 while reading"
+        TwiceWhileReading "10 is given before the lines after it are read"
+        JudgedWhileReading "events are played before the lines after them are read"
+        // runs and exits
+        RunsFromTheLast "runs begin at the last definition"
+        FirstPartOnly "an `s` leads to its first contract alone"
+        WeightlessLeftOut "a part of weight 0 is no part of a run"
+        OwnersInDefinition0 "the owners of secrets are those of definition 0"
+        SignersIgnored "own whoever signs"
+        NoSignerAtAll "own only with no signer"
+        MustSign "own only if P signs"
+        AmongTheSigners "own if P is one of the signers"
+        OthersNotPaid "`w` to another is not own"
+        SplitsNotOwn "`s` is not own"
+        RevealsNotOwn "`r` is not own"
+        AnyCondition "own with any condition"
+        TrueConditions "own with any condition that is true for zeros"
+        OwnersIgnored "own with anyone's secrets"
+        OneOwnedSuffices "own if one of the secrets is P's"
+        FirstOwnedSuffices "own if the first secret is P's"
+        RenewalsOwn "`g` is own"
+        RenewalsOwnAlone "`g` is own with K = 1"
+        MustBeOpen "own only with opening time 0"
+        EmptyIsAnExit "a contract of no branches is an exit"
+        ExitsNotAsked "contracts of the branch need no exit"
+        EveryNode "every node is reached"
+        RootAlone "only the root must have an exit"
+        ExitPathOnly "only nodes on the exit path count"
+        OwnBranchesOnly "only own branches lead to reached nodes"
+        OpenBranchesOnly "only branches with opening time 0 lead to reached nodes"
+        UnsignedBranchesOnly "only branches with no signers lead to reached nodes"
+        RenewalsNotFollowed "renewals don't lead to reached nodes"
+        MadeForTheFirst "`make` is for participant 0"
+        MadeWithout1 "a made rank is the sum alone"
+        MadeByLargest "a made rank is 1 + the largest"
+        TiesToTheHigher "of equal ranks the highest branch is made"
+        FirstBranch "the first branch with an exit is made"
+        LastBranch "the last branch with an exit is made"
+        FrozenOnSight "every sheet is frozen"
+        FrozenNamesTheHighest "`frozen` names the highest node"
+        FrozenNamesTheRoot "`frozen` names the root"
+        NumberedFrom1 "nodes count from 1"
+        NumberedByDefinition "nodes count anew in each definition"
+        NumberedPartsFirst "nodes are numbered when they end"
+        FrozenWithRows "`frozen` is printed after the rows there are"
+        // rows
+        AllRowsAccepted "all rows are accepted"
+        AllRowsDeclined "all rows are declined"
+        CheckPrintsRows "`check` prints the rows"
+        CheckedForTheFirst "`check` is for participant 0"
+        RowsAtField1 "10 to 13 are told at field 1"
+        RowLinesOneEarly "the lines of rows count from that of `check`"
+        RootBeforeTwice "11 for the root comes before 10"
+        TwiceRowAllowed "a node may have two rows"
+        TwiceRowByRow "10 is found row by row with 11 to 13"
+        SameRowAllowed "the same row may stand twice"
+        TwiceAtTheLast "10 is told at the last line whose node an earlier row has"
+        TwiceAtTheFirst "10 is told at the first of the two"
+        RootNotAsked "the root needs no row"
+        RootOfTheLast "the root of the last definition needs a row"
+        RootAtTheFirstRow "11 for the root is told on the line after `check`"
+        RowsOfTheBranchOnly "only contracts of the row's own branch need rows"
+        RowsOfOwnOnly "only contracts of own branches need rows"
+        RowsOfRenewalsNotAsked "roots that are renewed as need no rows"
+        RankByLargest "a rank is at least 1 + the largest"
+        RankByPublished "a rank is at least 1 + the sum of the least ranks"
+        RankWithout1 "a rank is at least the sum"
+        RankAnything "any rank will do"
+        RankExact "a rank is exactly 1 + the sum"
+        RankAbove "a rank is above 1 + the sum"
+        RanksWrap "sums of ranks wrap at 65,536"
+        RanksStop "sums of ranks stop at 65,535"
+        UnreachedNotJudged "rows of nodes that are not reached are not judged"
+        NumberByNumber "11 over all rows, then 12, then 13"
+        RankOfTheFirstRow "`liquid` has the rank of the first row"
+        RankAsPublished "`liquid` has the least rank"
+        RankLargest "`liquid` has the largest rank"
+        ReachedRowsCounted "`liquid` counts the rows of reached nodes"
+        NodesCounted "`liquid` counts the nodes"
+        // conditions
+        AddIsSub "`add` subtracts"
+        AddIn32Bits "sums wrap at 32 bits"
+        SubIsAdd "`sub` adds"
+        SubAbsolute "a difference is never negative but turned"
+        SubClipped "a difference stops at 0"
+        SubTurned "`sub` takes the first from the second"
+        TrueIsFalse "`t` is false"
+        AndIsOr "`and` is or"
+        AndIsLeft "`and` is its first"
+        AndIsRight "`and` is its second"
+        NotIsNothing "`not` changes nothing"
+        EqIsUnequal "`eq` is unequal"
+        EqIsAtMost "`eq` is at most"
+        EqIsAtLeast "`eq` is at least"
+        LtIsGreater "`lt` is greater"
+        LtIsAtMost "`lt` is at most"
+        LtIsUnequal "`lt` is unequal"
+        // the ledger
+        FirstDepositOnly "contract 0 has the first deposit alone"
+        StipulatedAsTheLast "contract 0 is at the root of the last definition"
+        StipulationNotCounted "the deposits of stipulation are not among those taken"
+        BornSigned "a contract is signed when made"
+        NumbersGivenTwice "a dead contract's number is given again"
+        WaitsFromZero "`wait` sets the time"
+        DeadSigned "a dead contract is signed"
+        RenewalsNotSigned "a `g` is not signed"
+        SignedWhenOpen "signed not before opening time"
+        AnyoneSigns "anyone signs"
+        SignedTwice "signing twice is taken"
+        SignedTwiceAfterOthers "signing again is taken once another has signed"
+        OneSignsForAll "one signs for all"
+        SignsEveryBranch "signing one branch signs all"
+        ToldByContract "`tell` names the set by one of its contracts"
+        TellsInEverySet "a secret is told in every set"
+        ToldTwice "a told secret is told again"
+        IllFormedTold "`x` is told"
+        UnknownTold "an unknown secret is told"
+        DeadNotTold "a secret is told only for a live contract"
+        TellsEverySecret "telling one secret tells all"
+        UnknownSetIs14 "an unknown set gets 14"
+        UnknownSecretIs14 "an unknown secret gets 14"
+        DeadFired "a dead contract fires"
+        NoBranchIs16 "an unknown contract or branch gets 16"
+        WithdrawalsMake "`w` counts as making a contract"
+        SplitsMakeOne "`s` counts as making one contract"
+        RevealsMakeNone "`r` counts as making no contract"
+        RenewalsMakeNone "`renew` counts as making no contract"
+        LiveCounted "only live contracts count as made"
+        FiredAfterOpening "fired only after opening time"
+        FiredEarly "fired before opening time"
+        OneSignerSuffices "one signer suffices for `fire`"
+        FiredUnsigned "fired unsigned"
+        DeadRenewed "a dead contract is renewed"
+        AllRenew "all participants must sign a renewal"
+        ValuesOfTheOld "`renew` has a value for each secret of the old definition"
+        HeldCounted "what has been paid is no longer among the deposits taken"
+        EmptySetsNotCounted "a set of no secrets doesn't count"
+        RenewedAfterOpening "renewed only after opening time"
+        RenewedEarly "renewed before opening time"
+        OneRenewerSuffices "one signer suffices for `renew`"
+        RenewedUnsigned "renewed unsigned"
+        FewerValuesTaken "`renew` takes fewer values"
+        MoreValuesTaken "`renew` takes more values"
+        FirstSetServes "set 0 serves every contract"
+        NewestSetServes "the newest set serves every contract"
+        OldSetsServe "a secret told in any set serves"
+        UntoldServe "untold secrets serve"
+        OneToldSuffices "one told secret of an `r` suffices"
+        FirstToldSuffices "the first secret of an `r` suffices"
+        NamedToldSuffice "the secrets that the condition names suffice"
+        ConditionsNotAsked "a false condition serves"
+        RefusedFiringsKill "a refused firing kills the contract"
+        RefusedWaitsMove "a refused wait moves the time to its limit"
+        PartsOfTheFirstSet "parts have set 0"
+        FiredLivesOn "a fired contract lives on"
+        PaidToTheFirst "`w` pays participant 0"
+        PaidAnew "what was paid before is forgotten"
+        WeightsPerMille "weights are parts of 1,000"
+        WeightsAlike "all parts get the same"
+        SharesDividedFirst "a share is weight times the floor of balance / sum"
+        SharesRoundedUp "shares are rounded up"
+        SharesRounded "shares are rounded to the nearest"
+        SharesOfTheRest "each share is taken of what the earlier ones left"
+        RemainderToTheFirst "the first part gets the remainder"
+        RemainderToTheWeighty "the last part with a weight gets the remainder"
+        RemainderLost "the remainder is lost"
+        PartsBackwards "parts are made from the last to the first"
+        SignaturesKept "a fired contract's signatures stay for its parts"
+        RenewedAsTheFirst "renewed as definition 0"
+        RenewedAsTheOld "renewed as the old definition"
+        DepositsOfTheFirst "a renewal adds the deposits of definition 0"
+        DepositsOfTheOld "a renewal adds the deposits of the old definition"
+        RenewedLivesOn "a renewed contract lives on"
+        RenewalsNotCounted "the deposits of renewals are not among those taken"
+        RenewedStaysTold "the told secrets are told in the new set too"
+        OldSetKept "a renewed contract keeps its set"
+        NoDepositsAdded "a renewal adds no deposits"
+        BalanceLeftOut "a renewal leaves the old balance out"
+        RenewedSignaturesKept "a renewed contract's signatures stay"
+        EventLinesFromPlay "the lines of events count from that of `play`"
+        EventLinesOneEarly "an event is told on the line before it"
+        EventsAtField1 "14 to 19 are told at field 1"
+        TakenAfterTheFirst "a play acts on its first event and prints `taken` for the rest"
+        NineteenOnSight "every event gets 19"
+        RefusalEndsPlay "a refused event ends the play"
+        PaidBackwards "`end` has the last participant first"
+        MadePrinted "`end` has the contracts made"
+    }
+}
+
+// What is too long for a line in the model.
+
+pub fn kill(contracts: &mut [Contract], event: &Event) {
+    if let Event::Fire { contract, .. } = event {
+        if let Some(contract) = contracts.get_mut(*contract) {
+            contract.alive = false;
+        }
+    }
+}
+
+/// The contracts made since there were `before` have the signatures of the one they come from.
+pub fn keep_signatures(contracts: &mut [Contract], from: usize, before: usize) {
+    let kept = contracts[from].signed.clone();
+    for made in &mut contracts[before..] {
+        for (signed, kept) in made.signed.iter_mut().zip(&kept) {
+            *signed = *kept;
+        }
+    }
+}
+
+/// The last set has told what the old one has.
+pub fn stay_told(sets: &mut [Vec<Commitment>], old: usize) {
+    if let Some((new, before)) = sets.split_last_mut() {
+        for (new, old) in new.iter_mut().zip(&before[old]) {
+            new.told = old.told;
+        }
+    }
+}
+
+pub fn shares_of_the_rest(mut balance: u64, parts: &[Part]) -> Vec<u64> {
+    let mut weights: u64 = parts.iter().map(|part| part.weight).sum();
+    let share = |part: &Part| {
+        let whole = u128::from(balance) * u128::from(part.weight);
+        let share = (whole / u128::from(weights.max(1))) as u64;
+        balance -= share;
+        weights -= part.weight;
+        share
+    };
+    parts.iter().map(share).collect()
+}
+
+/// The events before the refused line, played, and then the refusal.
+pub fn judged_before(request: &[u8], reply: Reply) -> Reply {
+    let Reply::Refused { line, .. } = reply else {
+        return reply;
+    };
+    let lines = request.split_inclusive(|byte| *byte == b'\n');
+    let before = lines
+        .take(line.saturating_sub(1))
+        .collect::<Vec<_>>()
+        .concat();
+    if before.len() == request.len() || before.is_empty() {
+        return reply;
+    }
+    match judge(&before).0 {
+        Reply::Text(text) if text.contains("end,") => {
+            let played = text.rfind("end,").map_or("", |end| &text[..end]);
+            Reply::Text(format!("{played}{}", reply.printed()))
+        }
+        _ => reply,
+    }
+}
+
+/// The number of a node where nodes are numbered when they end: those of its branches come first.
+pub fn parts_first(sheet: &Sheet, node: usize) -> usize {
+    let within = |node: usize| -> usize {
+        let mut inside = vec![node];
+        let mut place = 0;
+        while place < inside.len() {
+            let branches = &sheet.nodes[inside[place]].branches;
+            inside.extend(branches.iter().flat_map(Branch::contracts));
+            place += 1;
+        }
+        inside.len() - 1
+    };
+    // Those that appeared earlier have ended, all but the ones around it, which are depth - 1.
+    node - (sheet.nodes[node].depth - 1) + within(node)
+}
+
+/// A field without its quotes.
+pub fn unquoted(text: &[u8]) -> &[u8] {
+    let inner = text
+        .strip_prefix(b"\"")
+        .and_then(|text| text.strip_suffix(b"\""));
+    inner.unwrap_or(text)
+}
+
+/// The row of a node that has nothing left.
+pub fn done(sheet: &Sheet, node: usize) -> Option<Row> {
+    let (branch, rank) = (0, 1);
+    let nothing = sheet.nodes[node].branches.is_empty();
+    nothing.then_some(Row { node, branch, rank })
+}
+
+/// The place of the first row of a node.
+pub fn first_of(rows: &[Row], node: usize) -> usize {
+    let first = rows.iter().position(|row| row.node == node);
+    first.unwrap_or(rows.len())
+}
+
+/// The place of the last row whose node an earlier one has.
+pub fn last_twice(rows: &[Row]) -> usize {
+    let twice = |place: &usize| first_of(rows, rows[*place].node) < *place;
+    (0..rows.len()).rfind(twice).unwrap_or(0)
+}
+
+/// The sum of the published ranks.
+pub fn published(sheet: &Sheet, participant: usize, parts: &[usize]) -> u64 {
+    let exits = exits(sheet, participant);
+    let rows = parts.iter().filter_map(|node| exits[*node]);
+    rows.map(|row| row.rank).sum()
+}
+
+/// The set of a contract.
+pub fn set_of(contracts: &[Contract], number: usize) -> usize {
+    contracts
+        .get(number)
+        .map_or(number, |contract| contract.set)
+}
+
+/// Has the set a live contract?
+pub fn set_lives(contracts: &[Contract], set: usize) -> bool {
+    contracts
+        .iter()
+        .any(|contract| contract.set == set && contract.alive)
+}
+
+/// How many sets have secrets.
+pub fn filled(sets: &[Vec<Commitment>]) -> usize {
+    sets.iter().filter(|set| !set.is_empty()).count()
+}
+
+/// Is the secret told in some set?
+pub fn told_anywhere(sets: &[Vec<Commitment>], secret: usize) -> bool {
+    let told = |set: &Vec<Commitment>| set.get(secret).is_some_and(|secret| secret.told);
+    sets.iter().any(told)
+}
+
+/// The satoshi in live contracts.
+pub fn held(contracts: &[Contract]) -> u64 {
+    let live = contracts.iter().filter(|contract| contract.alive);
+    live.map(|contract| contract.balance).sum()
+}
+
+/// Does the condition name this secret?
+pub fn names(condition: &Condition, secret: usize) -> bool {
+    fn within(expression: &Expression, secret: usize) -> bool {
+        match expression {
+            Expression::Constant(_) => false,
+            Expression::Secret(named) => *named == secret,
+            Expression::Add(left, right) | Expression::Subtract(left, right) => {
+                within(left, secret) || within(right, secret)
+            }
+        }
+    }
+    match condition {
+        Condition::True => false,
+        Condition::And(left, right) => names(left, secret) || names(right, secret),
+        Condition::Not(part) => names(part, secret),
+        Condition::Equal(left, right) | Condition::Less(left, right) => {
+            within(left, secret) || within(right, secret)
+        }
+    }
+}
+
+/// The same sum with 2^p for the p-th participant from the last.
+pub fn backwards(signers: u64, participants: usize) -> u64 {
+    let signs = |participant: &usize| signers >> participant & 1 == 1;
+    let mirrored = |participant: usize| 1 << (participants - 1 - participant);
+    (0..participants).filter(signs).map(mirrored).sum()
+}
+
+/// The fields of all conditions of these nodes.
+pub fn condition_fields(nodes: &[Node]) -> usize {
+    let branches = nodes.iter().flat_map(|node| &node.branches);
+    let fields = branches.map(|branch| match &branch.action {
+        Action::Reveal { condition, .. } => condition.fields(),
+        _ => 0,
+    });
+    fields.sum()
+}
+
+pub fn tell_every_secret(set: &mut [Commitment]) {
+    for secret in set {
+        secret.told = true;
+    }
+}
+
+pub fn tell_in_every_set(sets: &mut [Vec<Commitment>], secret: usize) {
+    for set in sets {
+        if let Some(secret) = set.get_mut(secret) {
+            secret.told = true;
+        }
+    }
+}
+
+pub fn rows_as_text(rows: impl Iterator<Item = Row>) -> String {
+    let line = |row: Row| format!("row,{},{},{}\n", row.node, row.branch, row.rank);
+    rows.map(line).collect()
+}

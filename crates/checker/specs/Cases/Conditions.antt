@@ -93,18 +93,18 @@ cases =
     ∷ (before ++ letters "eq,v,x,k,1" ++ after, letters "refused,3,2,16\n")
     -- "64 fields in a condition": 7 at the field that passes
     ∷ (before ++ copies 63 (letters "not,") ++ letters "t" ++ after, fails)
-    ∷ (before ++ copies 64 (letters "not,") ++ letters "t" ++ after, letters "refused,7,2,78\n")
-    ∷ (before ++ copies 60 (letters "not,") ++ letters "and,t,and,t,t" ++ after, letters "refused,7,2,78\n")
-    ∷ (before ++ copies 61 (letters "not,") ++ letters "eq,k,3,v,0" ++ after, letters "refused,7,2,78\n")
-    ∷ (before ++ copies 60 (letters "not,") ++ letters "eq,k,3,v,0" ++ after, letters "refused,7,2,78\n")
+    ∷ (before ++ copies 64 (letters "not,") ++ letters "t", letters "refused,7,2,78\n")
+    ∷ (before ++ copies 60 (letters "not,") ++ letters "and,t,and,t,t", letters "refused,7,2,78\n")
+    ∷ (before ++ copies 61 (letters "not,") ++ letters "eq,k,3,v,0", letters "refused,7,2,78\n")
+    ∷ (before ++ copies 60 (letters "not,") ++ letters "eq,k,3,v,0", letters "refused,7,2,78\n")
     ∷ (before ++ copies 59 (letters "not,") ++ letters "eq,k,3,v,0" ++ after, fails)
     ∷ (before ++ letters "not,not,eq,k,20," ++ copies 19 (letters "add,k,1,") ++ letters "k,1" ++ after, holds)
-    ∷ (before ++ letters "not,not,not,eq,k,20," ++ copies 19 (letters "add,k,1,") ++ letters "k,1" ++ after, letters "refused,7,2,78\n")
+    ∷ (before ++ letters "not,not,not,eq,k,20," ++ copies 19 (letters "add,k,1,") ++ letters "k,1", letters "refused,7,2,78\n")
     -- 2, 3, 4 and 6 before 7
     ∷ (before ++ copies 63 (letters "not,") ++ letters "not\n", letters "refused,2,2,78\n")
-    ∷ (before ++ copies 64 (letters "not,") ++ letters "f" ++ after, letters "refused,3,2,78\n")
-    ∷ (before ++ copies 60 (letters "not,") ++ letters "eq,v,0,k,1000000001" ++ after, letters "refused,4,2,78\n")
-    ∷ (before ++ copies 60 (letters "not,") ++ letters "eq,k,3,v,2" ++ after, letters "refused,6,2,78\n")
+    ∷ (before ++ copies 64 (letters "not,") ++ letters "f", letters "refused,3,2,78\n")
+    ∷ (before ++ copies 60 (letters "not,") ++ letters "eq,v,0,k,1000000001", letters "refused,4,2,78\n")
+    ∷ (before ++ copies 60 (letters "not,") ++ letters "eq,k,3,v,2", letters "refused,6,2,78\n")
     -- counted anew for each condition
     ∷ (
       letters "bitml,1,1\ndef,1,1,0,c,2,0,0,r,1,0," ++ copies 36 (letters "not,") ++ letters "t,c,0,0,0,r,1,0," ++ copies 36 (letters "not,")

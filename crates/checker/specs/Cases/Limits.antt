@@ -69,6 +69,4 @@ cases =
     )
     -- the 256th by a renewal
     ∷ (rounds ++ letters "wait,9\nfire,1,3\nfire,10,3\nrenew,28,6,x\nrenew,37,6,x\n", copies 61 (letters "taken\n") ++ letters "refused,19,65,0\nend,9,197,0\n")
-    -- the 256th by an `r`
-    ∷ (rounds ++ letters "wait,9\nfire,10,3\nfire,19,3\nfire,1,2\nfire,28,3\n", copies 61 (letters "taken\n") ++ letters "refused,19,65,0\nend,9,197,0\n")
     ∷ []

@@ -135,6 +135,13 @@ cases =
     ∷ (letters "bitml,1,1\ndef,1,2,0,0,c,1,0,0,r,3,0,1,1\n", letters "refused,5,2,14\n")
     -- each of eight secrets twice
     ∷ (letters "bitml,1,1\ndef,1,8" ++ copies 8 (letters ",0") ++ letters ",c,1,0,0,r,2,0,0\n", letters "refused,5,2,19\n")
+    ∷ (letters "bitml,1,1\ndef,1,8" ++ copies 8 (letters ",0") ++ letters ",c,1,0,0,r,2,1,1\n", letters "refused,5,2,19\n")
+    ∷ (letters "bitml,1,1\ndef,1,8" ++ copies 8 (letters ",0") ++ letters ",c,1,0,0,r,2,2,2\n", letters "refused,5,2,19\n")
+    ∷ (letters "bitml,1,1\ndef,1,8" ++ copies 8 (letters ",0") ++ letters ",c,1,0,0,r,2,3,3\n", letters "refused,5,2,19\n")
+    ∷ (letters "bitml,1,1\ndef,1,8" ++ copies 8 (letters ",0") ++ letters ",c,1,0,0,r,2,4,4\n", letters "refused,5,2,19\n")
+    ∷ (letters "bitml,1,1\ndef,1,8" ++ copies 8 (letters ",0") ++ letters ",c,1,0,0,r,2,5,5\n", letters "refused,5,2,19\n")
+    ∷ (letters "bitml,1,1\ndef,1,8" ++ copies 8 (letters ",0") ++ letters ",c,1,0,0,r,2,6,6\n", letters "refused,5,2,19\n")
+    ∷ (letters "bitml,1,1\ndef,1,8" ++ copies 8 (letters ",0") ++ letters ",c,1,0,0,r,2,7,7\n", letters "refused,5,2,19\n")
     ∷ (letters "bitml,1,1\ndef,1,8" ++ copies 8 (letters ",0") ++ letters ",c,1,0,0,r,8,7,6,5,4,3,2,1,1\n", letters "refused,5,2,25\n")
     ∷ (letters "bitml,1,1\ndef,1,8" ++ copies 8 (letters ",0") ++ letters ",c,1,0,0,r,8,7,6,5,4,3,2,1,2\n", letters "refused,5,2,25\n")
     ∷ (letters "bitml,1,1\ndef,1,8" ++ copies 8 (letters ",0") ++ letters ",c,1,0,0,r,8,7,6,5,4,3,2,1,3\n", letters "refused,5,2,25\n")

@@ -4,7 +4,7 @@
 //! rt staticlib checker
 //! rustc -O --edition 2021 -L target/staticlib -l static=checker tests/entry/main.rs -o target/tests/entry
 //! target/tests/entry [SEED COUNT [EXAMPLES [CASES]]]
-//!     1, 20000, examples and crates/checker/specs/Cases if not given
+//!     1, 20000, examples and crates/cases/specs/Cases if not given
 //! ```
 //!
 //! The same memory is lent for every request and never cleared; before some calls it is filled with

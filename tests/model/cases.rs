@@ -1,4 +1,4 @@
-//! Cases whose requests are too long for the lists of cases (crates/checker/specs/Cases): a request, and
+//! Cases whose requests are too long for the lists of cases (crates/cases/specs/Cases): a request, and
 //! what the program `judge` prints for it.  The texts were written by hand from document 01 and
 //! docs/DECISIONS.md; the model and the verified program are both held to them.
 

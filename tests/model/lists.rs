@@ -15,7 +15,7 @@ use std::collections::HashMap;
 use std::path::Path;
 
 /// Where they are, from the root of the repository.
-pub const FOLDER: &str = "crates/checker/specs/Cases";
+pub const FOLDER: &str = "crates/cases/specs/Cases";
 
 /// What Case.antt declares besides texts: what a case is, and the words of a term.
 const WORDS: [&str; 4] = ["Case", "printedFor", "copies", "byte"];

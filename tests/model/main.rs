@@ -9,7 +9,7 @@
 //! ./model wrong [CASES]                 do the cases pin the rules? (only with --cfg wrong_rules)
 //! ```
 //!
-//! CASES is the folder of the lists of cases, crates/checker/specs/Cases if not given; cases.rs has more.
+//! CASES is the folder of the lists of cases, crates/cases/specs/Cases if not given; cases.rs has more.
 
 mod cases;
 #[path = "gen.rs"]

@@ -1,6 +1,4 @@
-pub mod Buffers
 pub mod Demands
 pub mod Entry
 pub mod Printing
 pub mod Refusals
-pub mod Cases

@@ -2,7 +2,7 @@
 use Prim.Native.Nat.{ℕ}
 use mathlib.Core.List.{List, [], _∷_, _++_}
 use Rattle.texts.specs.Text.{letters}
-use Rattle.checker.specs.Cases.Case.{Case, copies}
+use Rattle.cases.specs.Cases.Case.{Case, copies}
 
 -- one participant with two secrets, 3 and 5: an `r` of both, with the condition that stands between these
 unfoldable pub before : List ℕ

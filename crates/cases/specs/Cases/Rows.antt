@@ -2,7 +2,7 @@
 use Prim.Native.Nat.{ℕ}
 use mathlib.Core.List.{List, [], _∷_, _++_}
 use Rattle.texts.specs.Text.{letters}
-use Rattle.checker.specs.Cases.Case.{Case, T, M, D, R, tie}
+use Rattle.cases.specs.Cases.Case.{Case, T, M, D, R, tie}
 
 -- rows for the nodes below the root of `tie`
 unfoldable pub below : List ℕ

@@ -6,8 +6,8 @@ use Rattle.bitml.specs.Lists.{All}
 use Rattle.texts.specs.Text.{letters}
 use Rattle.replies.specs.declared.Reply.{Reply}
 use Rattle.replies.specs.Answer.{replyOf, numbersOf}
 use Rattle.checker.specs.Entry.{answerTo}
-use Rattle.checker.specs.Cases.Case.{T, D, W, copies}
+use Rattle.cases.specs.Cases.Case.{T, D, W, copies}
 
 -- A request, places for so many rows, so many bytes of text; and what comes back
 abbrev pub Case : Type 0

@@ -2,7 +2,7 @@
 use Prim.Native.Nat.{ℕ}
 use mathlib.Core.List.{List, [], _∷_, _++_}
 use Rattle.texts.specs.Text.{letters}
-use Rattle.checker.specs.Cases.Case.{Case, N, W, copies}
+use Rattle.cases.specs.Cases.Case.{Case, N, W, copies}
 
 -- 31 renewals, and a sheet for them
 unfoldable pub renewals : List ℕ

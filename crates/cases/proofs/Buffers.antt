@@ -3,8 +3,8 @@ use mathlib.Core.Path.{refl}
 use Rattle.bitml.specs.Lists.{nil, cons}
 use Rattle.exits.specs.Made.{flat, filled}
 use Rattle.replies.specs.Answer.{replyOf, numbersOf}
-use Rattle.checker.specs.Buffers.{comesBack, cases, Buffers}
-use Rattle.checker.proofs.Cases.{passed}
+use Rattle.cases.specs.Buffers.{comesBack, cases, Buffers}
+use Rattle.cases.proofs.Cases.{passed}
 
 pub buffers-hold : Buffers
 unfolding Buffers cases comesBack passed replyOf numbersOf filled flat

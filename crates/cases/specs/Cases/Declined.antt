@@ -1,7 +1,7 @@
 -- "When a request is declined": the table of refusals, what is missing, empty or too much, words and numbers that are none. Assumes nothing.
 use mathlib.Core.List.{List, [], _∷_, _++_}
 use Rattle.texts.specs.Text.{letters}
-use Rattle.checker.specs.Cases.Case.{Case, T, D, R, N, W, copies, byte}
+use Rattle.cases.specs.Cases.Case.{Case, T, D, R, N, W, copies, byte}
 
 unfoldable pub cases : List Case
 cases =

@@ -1,7 +1,7 @@
 -- "Sheets tried by hand": the starred cases, and the edges that are named there. Assumes nothing.
 use mathlib.Core.List.{List, [], _∷_, _++_}
 use Rattle.texts.specs.Text.{letters}
-use Rattle.checker.specs.Cases.Case.{Case, T, M, D, R, copies}
+use Rattle.cases.specs.Cases.Case.{Case, T, M, D, R, copies}
 
 unfoldable pub cases : List Case
 cases =

@@ -1,7 +1,7 @@
 -- "Then one last part": `make`, `check` with its rows, `play` with its values and event lines, as they are read. Assumes nothing.
 use mathlib.Core.List.{List, [], _∷_, _++_}
 use Rattle.texts.specs.Text.{letters}
-use Rattle.checker.specs.Cases.Case.{Case, T, D, R, N, W}
+use Rattle.cases.specs.Cases.Case.{Case, T, D, R, N, W}
 
 unfoldable pub cases : List Case
 cases =

@@ -1,7 +1,7 @@
 -- "The ledger": stipulation, what each event asks and does, and 14 to 18. Assumes nothing.
 use mathlib.Core.List.{List, [], _∷_, _++_}
 use Rattle.texts.specs.Text.{letters}
-use Rattle.checker.specs.Cases.Case.{Case, T, D, R, N, W, copies}
+use Rattle.cases.specs.Cases.Case.{Case, T, D, R, N, W, copies}
 
 unfoldable pub cases : List Case
 cases =

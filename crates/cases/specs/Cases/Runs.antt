@@ -2,7 +2,7 @@
 use Prim.Native.Nat.{ℕ}
 use mathlib.Core.List.{List, [], _∷_, _++_}
 use Rattle.texts.specs.Text.{letters}
-use Rattle.checker.specs.Cases.Case.{Case, N, tie}
+use Rattle.cases.specs.Cases.Case.{Case, N, tie}
 
 -- secret 0 is 0's in definition 0 and 1's in definition 1
 unfoldable pub owners : List ℕ

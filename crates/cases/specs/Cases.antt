@@ -12,16 +12,16 @@ pub mod Declined
 use mathlib.Core.Path.{_≡_}
 use mathlib.Core.List.{List, _++_}
 use Rattle.bitml.specs.Lists.{All}
-use Rattle.checker.specs.Cases.Case as form
-use Rattle.checker.specs.Cases.Tried as tried
-use Rattle.checker.specs.Cases.Sheet as sheet
-use Rattle.checker.specs.Cases.Conditions as conditions
-use Rattle.checker.specs.Cases.LastPart as last-part
-use Rattle.checker.specs.Cases.Runs as runs
-use Rattle.checker.specs.Cases.Rows as rows
-use Rattle.checker.specs.Cases.Ledger as ledger
-use Rattle.checker.specs.Cases.Limits as limits
-use Rattle.checker.specs.Cases.Declined as declined
+use Rattle.cases.specs.Cases.Case as form
+use Rattle.cases.specs.Cases.Tried as tried
+use Rattle.cases.specs.Cases.Sheet as sheet
+use Rattle.cases.specs.Cases.Conditions as conditions
+use Rattle.cases.specs.Cases.LastPart as last-part
+use Rattle.cases.specs.Cases.Runs as runs
+use Rattle.cases.specs.Cases.Rows as rows
+use Rattle.cases.specs.Cases.Ledger as ledger
+use Rattle.cases.specs.Cases.Limits as limits
+use Rattle.cases.specs.Cases.Declined as declined
 
 unfoldable pub cases : List form.Case
 cases =

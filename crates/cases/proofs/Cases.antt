@@ -30,18 +30,18 @@ use Rattle.bitml.specs.Rule as rule
 use Rattle.texts.specs.Text as text
 use Rattle.plays.specs.Values as values
 use Rattle.plays.specs.Events as played-events
 use Rattle.checker.specs.Entry.{answerFor, judged, early, answerTo, refusedIn, textIn}
-use Rattle.checker.specs.Cases.Case.{Case, printedFor, copies, byte, T, M, D, R, N, W, tie}
-use Rattle.checker.specs.Cases.Tried as tried-cases
-use Rattle.checker.specs.Cases.Sheet as sheet-cases
-use Rattle.checker.specs.Cases.Conditions as conditions-cases
-use Rattle.checker.specs.Cases.LastPart as last-part-cases
-use Rattle.checker.specs.Cases.Runs as runs-cases
-use Rattle.checker.specs.Cases.Rows as rows-cases
-use Rattle.checker.specs.Cases.Ledger as ledger-cases
-use Rattle.checker.specs.Cases.Limits as limits-cases
-use Rattle.checker.specs.Cases.Declined as declined-cases
-use Rattle.checker.specs.Cases.{cases, Cases}
+use Rattle.cases.specs.Cases.Case.{Case, printedFor, copies, byte, T, M, D, R, N, W, tie}
+use Rattle.cases.specs.Cases.Tried as tried-cases
+use Rattle.cases.specs.Cases.Sheet as sheet-cases
+use Rattle.cases.specs.Cases.Conditions as conditions-cases
+use Rattle.cases.specs.Cases.LastPart as last-part-cases
+use Rattle.cases.specs.Cases.Runs as runs-cases
+use Rattle.cases.specs.Cases.Rows as rows-cases
+use Rattle.cases.specs.Cases.Ledger as ledger-cases
+use Rattle.cases.specs.Cases.Limits as limits-cases
+use Rattle.cases.specs.Cases.Declined as declined-cases
+use Rattle.cases.specs.Cases.{cases, Cases}
 
 -- ---- the test
 

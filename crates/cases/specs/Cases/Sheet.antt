@@ -1,7 +1,7 @@
 -- "The sheet": line 1, `def` lines, contracts, branches and actions; each range and limit at its last good and its first bad value. Assumes nothing.
 use mathlib.Core.List.{List, [], _∷_, _++_}
 use Rattle.texts.specs.Text.{letters}
-use Rattle.checker.specs.Cases.Case.{Case, N, copies}
+use Rattle.cases.specs.Cases.Case.{Case, N, copies}
 
 unfoldable pub cases : List Case
 cases =

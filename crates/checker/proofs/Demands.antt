@@ -67,7 +67,7 @@ answer-room s places text r =
     ap (λ n. cond (eqb n 0) (judged s (readRequest s)) (refused n 0 0)) (sym (early-none (length s) places text (r .bytes) (r .enough-places) (r .enough-text)))
 
 -- a request that is read whole is answered by its last part
-answer-read : (s : List ℕ) (places text : ℕ) → Room s places text → (K : ℕ) (E : Entries) (l : LastPart) → readRequest s ≡ request K E l → answerTo s places text ≡ answerFor s K E l
+pub answer-read : (s : List ℕ) (places text : ℕ) → Room s places text → (K : ℕ) (E : Entries) (l : LastPart) → readRequest s ≡ request K E l → answerTo s places text ≡ answerFor s K E l
 unfolding judged
 answer-read s places text room K E l e = answer-room s places text room ∙ ap (judged s) e
 

@@ -9,7 +9,7 @@ use mathlib.Core.Option.{Option}
 use mathlib.Core.List.{List, [], _∷_}
 use lib.ListN.{length}
 use lib.Dec.{leb, eqb}
-use borrow.Author.Tests.{le-leb, lt-leb, eqb-false}
+use borrow.Author.Tests.{le-leb, lt-leb, ne-eqb, eqb-false}
 use Rattle.bitml.specs.Lists.{_&_}
 use Rattle.bitml.specs.Sheet.{Sheet}
 use Rattle.bitml.specs.Rows as rows
@@ -33,9 +33,9 @@ use Rattle.plays.specs.Events.{eventsOf}
 use Rattle.plays.proofs.Ranges.{events-range}
 use Rattle.checker.specs.Demands.{Room}
 use Rattle.checker.specs.Entry.{answerFor, judged, answerTo}
-use Rattle.checker.specs.Refusals.{Why, tooLong, shortBuffers, notRead, rowsRefused, Refused, long, short, misread, declined, OfRefusals}
+use Rattle.checker.specs.Refusals.{Why, tooLong, shortBuffers, notRead, rowsRefused, Refused, long, short, misread, declined, Placed, OfRefusals}
 use Rattle.checker.proofs.Entry.{early-long, early-rows, early-text}
-use Rattle.checker.proofs.Demands.{answer-room, formed}
+use Rattle.checker.proofs.Demands.{answer-room, answer-read, formed}
 
 -- ---- what comes before reading
 
@@ -80,15 +80,8 @@ module _ {s : List ℕ} {places text : ℕ} where
   unfolding whyOf readingWhy
   refused-why (long h) = rw (lt-leb _ _ h)
   refused-why (short h i) = rw (le-leb _ _ h, short-test places text i)
-  refused-why (misread r e h) = room-why r ∙ ap readingWhy e
-  refused-why (declined r e h i) = room-why r ∙ ap readingWhy e
-
-  refused-number : {w : Why} {n l f : ℕ} → Refused s places text w n l f → (1 ≤ n) × (n ≤ 13)
-  unfolding ReadNumber
-  refused-number (long h) = (omega arith, omega arith)
-  refused-number (short h i) = (omega arith, omega arith)
-  refused-number (misread r e h) = (omega (arith, h .number .0), omega (arith, h .number .1))
-  refused-number (declined r e h i) = (omega (arith, h .0), omega (arith, h .1))
+  refused-why (misread r e) = room-why r ∙ ap readingWhy e
+  refused-why (declined r e d) = room-why r ∙ ap readingWhy e
 
 -- ---- the refusals of rows
 
@@ -101,6 +94,37 @@ fault-number : {S : Sheet} {p : ℕ} {R : List Row} {n i : ℕ} → FaultAt S p 
 fault-number (twice before after r e h i) = (omega arith, omega arith)
 fault-number (rootless h i) = (omega arith, omega arith)
 fault-number (row before after r n h i e k w) = wrong-number w
+
+fault-answer : (S : Sheet) (p : ℕ) (R : List Row) (n i : ℕ) → FaultAt S p R n i → answer (checking S p R) ≡ refused n (length (S .defs) + 2 + i) 0
+unfolding answer checkedBy
+fault-answer S p R n i d =
+    let w = demands .check-is-fault S p R n i .1 d in
+    ap (checkedBy S p R) (w .1) ∙ rw (ne-eqb n 0 (λ e. omega (arith, w .0)))
+
+-- ---- each reason is told, within its numbers and places
+
+module _ {s : List ℕ} {places text : ℕ} where
+  refused-told : {w : Why} {n l f : ℕ} → Refused s places text w n l f → answerTo s places text ≡ refused n l f
+  unfolding answerFor
+  refused-told (long h) = answer-long s places text h
+  refused-told (short h i) = answer-short s places text h i
+  refused-told (misread {n = n} {l = l} {f = f} r e) = answer-unread s places text n l f r e
+  refused-told (declined {K = K} {p = p} {n = n} {i = i} {E = E} {R = R} r e d) = answer-read s places text r K E (check p R) e ∙ fault-answer (sheetOf K E) p R n i d
+
+  refused-placed : {w : Why} {n l f : ℕ} → Refused s places text w n l f → Placed w n l f
+  unfolding Placed OfReadings
+  refused-placed (long h) = (refl, refl, refl)
+  refused-placed (short h i) = (refl, refl, refl)
+  refused-placed (misread {n = n} {l = l} {f = f} r e) = of-readings s n l f e
+  refused-placed (declined {K = K} {p = p} {E = E} {R = R} r e d) =
+      (fault-number d .0, fault-number d .1, omega (arith, formed s K E (check p R) e .some-def), refl)
+
+placed-number : (w : Why) (n l f : ℕ) → Placed w n l f → (1 ≤ n) × (n ≤ 13)
+unfolding Placed ReadNumber
+placed-number tooLong n l f h = (omega (arith, h .0), omega (arith, h .0))
+placed-number shortBuffers n l f h = (omega (arith, h .0), omega (arith, h .0))
+placed-number notRead n l f h = (omega (arith, h .number .0), omega (arith, h .number .1))
+placed-number rowsRefused n l f h = (omega (arith, h .0), omega (arith, h .1))
 
 -- ---- what each last part is answered
 
@@ -131,14 +155,14 @@ module _ (s : List ℕ) (places text : ℕ) where
       let none : f .number ≡ 0 → ⊥ = eqb-false _ _ z in
       let some : 0 < f .number = omega arith in
       let fault = demands .check-is-fault S p R (f .number) (f .place) .0 (some, refl) in
-      (rowsRefused, declined r e (fault-number fault) (omega (arith, formed s K E (check p R) e .some-def)))
+      (rowsRefused, declined r e fault)
 
   reading : Room s places text → (w : Reading) → readRequest s ≡ w → Reasoned (judged s w)
-  unfolding judged answerFor Reasoned OfReadings
+  unfolding judged answerFor Reasoned
   reading r (request K E (make p)) e = made (sheetOf K E) p
   reading r (request K E (check p R)) e = checked K p E R r e
   reading r (request K E (play v z)) e = played (sheetOf K E) (valuesOf s v (defEntryAt E 0 .secrets)) (eventsOf s K z)
-  reading r (unread n l f) e = (notRead, misread r e (of-readings s n l f e))
+  reading r (unread n l f) e = (notRead, misread r e)
 
   narrow : length s ≤ 65536 → (places < 512) ⊎ (text < leastText) → Reasoned (answerTo s places text)
   unfolding Reasoned
@@ -161,11 +185,9 @@ pub of-refusals : OfRefusals
 unfolding Reasoned
 of-refusals =
     record {
-      why = λ s places text n l f e. subst (Reasoned s places text) e (reasoned s places text);
+      why = λ s places text n l f. (λ e. subst (Reasoned s places text) e (reasoned s places text), λ h. refused-told (h .1));
       alone = λ s places text h i. sym (refused-why h) ∙ refused-why i;
-      number = λ s places text n l f e. refused-number (subst (Reasoned s places text) e (reasoned s places text) .1);
-      long-first = answer-long;
-      short-next = answer-short;
-      bad-next = answer-unread;
+      ranges = λ s places text h. refused-placed h;
+      number = λ s places text n l f e. let h = subst (Reasoned s places text) e (reasoned s places text) in placed-number (h .0) n l f (refused-placed (h .1));
       events = λ s K v e E h. of-events .all _ _ (eventsOf s K e) (events-range s K e);
     }

@@ -1,16 +1,16 @@
 -- An event that is in range is taken, or refused by a number of its kind. Assumes nothing.
-use mathlib.Core.Path.{_≡_, refl}
+use mathlib.Core.Path.{_≡_, refl, sym, subst}
 use mathlib.Core.Logic.{inl, inr}
 use Prim.Native.Nat.{ℕ, zero, suc}
 use mathlib.Core.Bool.{Bool, true, false, true≢false}
-use mathlib.Core.List.{List, [], _∷_, List·Memᴰ, List·Memᴰ·head, List·Memᴰ·tail}
-use lib.Dec.{leb}
-use borrow.Author.Tests.{le-leb, leb-true}
-use Rattle.bitml.specs.Lists.{ask, All, nil, cons}
+use mathlib.Core.List.{List, [], _∷_, List·Memᴰ}
+use lib.Dec.{leb, eqb}
+use borrow.Author.Tests.{le-leb, leb-true, eqb-true}
+use Rattle.bitml.specs.Lists.{_or_, ask, any, All, nil, cons}
 use Rattle.bitml.specs.Sheet.{Sheet}
 use Rattle.bitml.specs.Ledger.{Ledger, Event, wait, sign, tell, fire, renew, refusal}
 use Rattle.bitml.specs.Limits.{within, orLimit, limitedRefusal, limitedStep, answers}
-use Rattle.bitml.proofs.Lists.{all-of, and-i, ask-yes}
+use Rattle.bitml.proofs.Lists.{all-of, and-i, ask-yes, any-mem}
 use Rattle.promises.specs.Refusals.{refusals, InRange, EventNumber, OfEvents}
 
 -- ---- a number is one of a list
@@ -18,23 +18,8 @@ use Rattle.promises.specs.Refusals.{refusals, InRange, EventNumber, OfEv
 abbrev In : List ℕ → ℕ → Type 0
 In xs n = List·Memᴰ n xs
 
-in-0 : {x : ℕ} {xs : List ℕ} → In (x ∷ xs) x
-in-0 = List·Memᴰ·head refl
-
-in-1 : {x y : ℕ} {xs : List ℕ} → In (y ∷ x ∷ xs) x
-in-1 = List·Memᴰ·tail in-0
-
-in-2 : {x y z : ℕ} {xs : List ℕ} → In (z ∷ y ∷ x ∷ xs) x
-in-2 = List·Memᴰ·tail in-1
-
-in-3 : {x y z u : ℕ} {xs : List ℕ} → In (u ∷ z ∷ y ∷ x ∷ xs) x
-in-3 = List·Memᴰ·tail in-2
-
-in-4 : {x y z u v : ℕ} {xs : List ℕ} → In (v ∷ u ∷ z ∷ y ∷ x ∷ xs) x
-in-4 = List·Memᴰ·tail in-3
-
-in-5 : {x y z u v w : ℕ} {xs : List ℕ} → In (w ∷ v ∷ u ∷ z ∷ y ∷ x ∷ xs) x
-in-5 = List·Memᴰ·tail in-4
+known : {n : ℕ} (xs : List ℕ) → any (eqb n) xs ≡ true → In xs n
+known {n} xs h = let w = any-mem (eqb n) xs h in subst (In xs) (sym (eqb-true n (w .0) (w .2))) (w .1)
 
 ask-in : {xs : List ℕ} (b : Bool) (k rest : ℕ) → In xs k → In xs rest → In xs (ask b k rest)
 unfolding ask
@@ -50,20 +35,20 @@ limit-in (suc n) fits h i = i
 
 module _ (S : Sheet) (l : Ledger) where
   refusal-in : (e : Event) → InRange e → In (0 ∷ refusals e) (refusal S l e)
-  unfolding refusal refusals InRange
-  refusal-in (wait d) h = rw (ask-yes _ 4 0 (and-i _ _ (le-leb _ _ (h .0)) (le-leb _ _ (h .1)))) in-0
-  refusal-in (sign p c b) h = ask-in _ _ _ in-1 (ask-in _ _ _ in-2 in-0)
-  refusal-in (tell i j) h = ask-in _ _ _ in-1 in-0
-  refusal-in (fire c b) h = ask-in _ _ _ in-1 (ask-in _ _ _ in-2 (ask-in _ _ _ in-3 (ask-in _ _ _ in-4 in-0)))
-  refusal-in (renew c b vs) h = ask-in _ _ _ in-1 (ask-in _ _ _ in-2 (ask-in _ _ _ in-3 (ask-in _ _ _ in-4 in-0)))
+  unfolding refusal refusals InRange _or_
+  refusal-in (wait d) h = rw (ask-yes _ 4 0 (and-i _ _ (le-leb _ _ (h .0)) (le-leb _ _ (h .1)))) (known _ refl)
+  refusal-in (sign p c b) h = ask-in _ _ _ (known _ refl) (ask-in _ _ _ (known _ refl) (known _ refl))
+  refusal-in (tell i j) h = ask-in _ _ _ (known _ refl) (known _ refl)
+  refusal-in (fire c b) h = ask-in _ _ _ (known _ refl) (ask-in _ _ _ (known _ refl) (ask-in _ _ _ (known _ refl) (ask-in _ _ _ (known _ refl) (known _ refl))))
+  refusal-in (renew c b vs) h = ask-in _ _ _ (known _ refl) (ask-in _ _ _ (known _ refl) (ask-in _ _ _ (known _ refl) (ask-in _ _ _ (known _ refl) (known _ refl))))
 
   passed-in : (e : Event) → within S l e ≡ false → In (0 ∷ refusals e) 19
-  unfolding within refusals
-  passed-in (wait d) h = in-1
+  unfolding within refusals _or_
+  passed-in (wait d) h = known _ refl
   passed-in (sign p c b) h = absurd (true≢false h)
   passed-in (tell i j) h = absurd (true≢false h)
-  passed-in (fire c b) h = in-5
-  passed-in (renew c b vs) h = in-5
+  passed-in (fire c b) h = known _ refl
+  passed-in (renew c b vs) h = known _ refl
 
   limited-in : (e : Event) → InRange e → In (0 ∷ refusals e) (limitedRefusal S l e)
   unfolding limitedRefusal

@@ -11,6 +11,7 @@ use Rattle.fields.specs.declared.Num.the-variants.{Is, Not}
 use Rattle.fields.specs.declared.Got.{Got}
 use Rattle.fields.specs.declared.Got.the-variants.{Value, Bad}
 use Rattle.fields.specs.Field.{comma, lf, afterComma, upTo, numberOf, textAt, endAt, numberAt, wordFrom, wordAt, firstAt, lineEndAt, whenRead, anyNumber, belowAt, betweenAt}
+use Rattle.fields.proofs.Ranges.{cond-cases}
 use Rattle.tables.specs.State.{State}
 use Rattle.steps.specs.Steps.{Outcome, next, bad, toPlace, goOn, either, andThen, twice, times}
 use Rattle.promises.specs.Refusals.{ReadNumber}
@@ -37,8 +38,7 @@ read-told Q told b (read {v} {e}) go k = k v e
 read-told Q told b (unread {n} {p} h) go k = b n p h
 
 pub cond-told : {A : Type 0} (Q : A → Type 0) (b : Bool) (x y : A) → Q x → Q y → Q (cond b x y)
-cond-told Q true x y h k = h
-cond-told Q false x y h k = k
+cond-told Q b x y h k = cond-cases Q b x y (λ _. h) (λ _. k)
 
 module _ (s : List ℕ) (at : ℕ) where
   comma-told : (g : Got) → FieldTold g → FieldTold (afterComma s at g)

@@ -1,0 +1,1 @@
+// A sheet that stands in a table, written as text into a buffer that the caller lends.

@@ -1,0 +1,9 @@
+pub mod Fields
+pub mod Says
+pub mod Conditions
+pub mod Contracts
+pub mod Lines
+pub mod Local
+pub mod Reread
+pub mod Back
+pub mod Alone

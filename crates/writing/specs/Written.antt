@@ -1,0 +1,135 @@
+-- "A sheet written back": the text of a sheet as the reader holds it, from entries in the order of the text. Assumes nothing.
+use Prim.Native.Nat.{ℕ, zero, suc}
+use Prim.Native.Char.{code}
+use Prim.Native.String.{String}
+use mathlib.Core.Bool.{cond}
+use mathlib.Core.List.{List, [], _∷_, _++_}
+use lib.ListN.{length}
+use lib.Dec.{eqb}
+use Rattle.tables.specs.Entries.{BranchEntry, Entries}
+use Rattle.tables.specs.SheetOf.{nodeEntryAt, branchEntryAt, defEntryAt, listedAt, cellAt}
+use Rattle.texts.specs.Text.{letters, field}
+
+-- ---- pieces of text
+
+-- The entries that are due next
+pub record Place : Type 0 where
+  pub node : ℕ
+  pub branch : ℕ
+  pub def : ℕ
+  pub listed : ℕ
+  pub cell : ℕ
+
+-- What is written from a place on, and the place after it
+abbrev pub Writer : Type 0
+Writer = Place → List ℕ × Place
+
+unfoldable pub say : List ℕ → Writer
+say t p = (t, p)
+
+infixr 30 _then_
+unfoldable pub _then_ : Writer → Writer → Writer
+_then_ f g p = (f p .0 ++ g (f p .1) .0, g (f p .1) .1)
+
+unfoldable pub repeat : ℕ → Writer → Writer
+repeat zero f = say []
+repeat (suc n) f = f then repeat n f
+
+-- An entry is used up
+unfoldable pub nodeDone : Writer
+nodeDone p = ([], record { node = suc (p .node); branch = p .branch; def = p .def; listed = p .listed; cell = p .cell })
+
+unfoldable pub branchDone : Writer
+branchDone p = ([], record { node = p .node; branch = suc (p .branch); def = p .def; listed = p .listed; cell = p .cell })
+
+unfoldable pub defDone : Writer
+defDone p = ([], record { node = p .node; branch = p .branch; def = suc (p .def); listed = p .listed; cell = p .cell })
+
+unfoldable pub listedDone : Writer
+listedDone p = ([], record { node = p .node; branch = p .branch; def = p .def; listed = suc (p .listed); cell = p .cell })
+
+unfoldable pub cellDone : Writer
+cellDone p = ([], record { node = p .node; branch = p .branch; def = p .def; listed = p .listed; cell = suc (p .cell) })
+
+-- A word behind its comma
+abbrev pub word : String → List ℕ
+word w = code "," ∷ letters w
+
+-- ---- conditions: a cell for each field
+
+unfoldable pub conditionWord : ℕ → List ℕ
+conditionWord c =
+    cond (eqb c 0) (word "t") (cond (eqb c 1) (word "and") (cond (eqb c 2) (word "not") (cond (eqb c 3) (word "eq") (word "lt"))))
+
+unfoldable pub expressionWord : ℕ → List ℕ
+expressionWord c = cond (eqb c 0) (word "k") (cond (eqb c 1) (word "v") (cond (eqb c 2) (word "add") (word "sub")))
+
+module _ (E : Entries) where
+  -- A number that is a cell: of a `k` or a `v`
+  unfoldable pub numberText : Writer
+  numberText p = (say (field (cellAt E (p .cell))) then cellDone) p
+
+  -- What stands after the word of cell c
+  unfoldable pub operandsText : Writer → ℕ → Writer
+  operandsText expression c = cond (eqb c 0) numberText (cond (eqb c 1) numberText (expression then expression))
+
+  -- "Expression e", with d words left to nest
+  unfoldable pub expressionText : ℕ → Writer
+  expressionText zero p = ([], p)
+  expressionText (suc d) p =
+      (say (expressionWord (cellAt E (p .cell))) then cellDone then operandsText (expressionText d) (cellAt E (p .cell))) p
+
+  unfoldable pub clausesText : Writer → Writer → ℕ → Writer
+  clausesText condition expression c =
+      cond (eqb c 0) (say []) (cond (eqb c 1) (condition then condition) (cond (eqb c 2) condition (expression then expression)))
+
+  -- "condition"
+  unfoldable pub conditionText : ℕ → Writer
+  conditionText zero p = ([], p)
+  conditionText (suc d) p =
+      (say (conditionWord (cellAt E (p .cell))) then cellDone then clausesText (conditionText d) (expressionText d) (cellAt E (p .cell))) p
+
+  -- ---- contracts
+
+  unfoldable pub listedText : Writer
+  listedText p = (say (field (listedAt E (p .listed))) then listedDone) p
+
+  -- "weight and contract": the weight stands with the node that is due
+  unfoldable pub partText : Writer → Writer
+  partText contract p = (say (field (nodeEntryAt E (p .node) .weight)) then contract) p
+
+  -- "action": of the branch that is due
+  unfoldable pub actionText : Writer → BranchEntry → Writer
+  actionText contract e =
+      cond (eqb (e .kind) 0) (say (word "w") then say (field (e .arg)) then branchDone)
+      (cond (eqb (e .kind) 1) (say (word "s") then say (field (e .arg)) then branchDone then repeat (e .arg) (partText contract))
+      (cond (eqb (e .kind) 2)
+      (say (word "r") then say (field (e .count)) then repeat (e .count) listedText then conditionText 64 then branchDone then contract)
+      (say (word "g") then say (field (e .arg)) then branchDone)))
+
+  -- "branch: signers, opening time, an action"
+  unfoldable pub branchText : Writer → Writer
+  branchText contract p =
+      (say (field (branchEntryAt E (p .branch) .signers)) then say (field (branchEntryAt E (p .branch) .opens))
+      then actionText contract (branchEntryAt E (p .branch))) p
+
+  -- "contract: `c`, count of branches, the branches", with d levels left
+  unfoldable pub contractText : ℕ → Writer
+  contractText zero p = ([], p)
+  contractText (suc d) p =
+      (say (word "c") then say (field (nodeEntryAt E (p .node) .count)) then nodeDone
+      then repeat (nodeEntryAt E (p .node) .count) (branchText (contractText d))) p
+
+  -- ---- lines
+
+  -- "`def`: K deposits in satoshi, the count of secrets, each secret's owner, one contract"
+  unfoldable pub defText : ℕ → Writer
+  defText K p =
+      (say (letters "def") then repeat K listedText then say (field (defEntryAt E (p .def) .secrets)) then repeat (defEntryAt E (p .def) .secrets) listedText
+      then defDone then contractText 32 then say (code "\n" ∷ [])) p
+
+-- "Line 1: `bitml`, K participants, F definitions", and the `def` lines
+unfoldable pub sheetText : ℕ → Entries → List ℕ
+sheetText K E =
+    letters "bitml" ++ field K ++ field (length (E .defs)) ++ (code "\n" ∷ [])
+    ++ repeat (length (E .defs)) (defText E K) (record { node = 0; branch = 0; def = 0; listed = 0; cell = 0 }) .0

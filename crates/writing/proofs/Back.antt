@@ -1,8 +1,8 @@
 -- Writing what was read gives those same bytes. Assumes nothing.
 use Prim.Native.Nat.{ℕ, _-_, _≤_}
 use Prim.Native.Char.{code}
-use mathlib.Core.Path.{_≡_, refl, ap, ap₂, _∙_, subst}
-use mathlib.Core.List.{List, [], _∷_, _++_}
+use mathlib.Core.Path.{_≡_, refl, sym, ap, ap₂, _∙_, subst}
+use mathlib.Core.List.{List, [], _∷_, _++_, append-assoc, append-nil}
 use native.Mathlib.Omega.{arith}
 use lib.ListN.{length, take}
 use lib.Dec.{eqb, ltb}
@@ -21,7 +21,7 @@ use Rattle.lines.specs.declared.LineOne.the-variants.{Counts, Bad}
 use Rattle.lines.specs.LineOne.{countsAt, lineOneAt}
 use Rattle.lines.specs.Definition.{blank}
 use Rattle.lines.specs.Sheet.{beyond, limited, accepted, accept, sizes, sheetFrom, readSheet}
-use Rattle.texts.specs.Text.{letters, field}
+use Rattle.texts.specs.Text.{letters, field, fields, line}
 use Rattle.writing.specs.Written.{repeat, defText, sheetText}
 use Rattle.writing.proofs.Fields.{between, between-join, field-back}
 use Rattle.writing.proofs.Says.{Says, placeOf, grown-same}
@@ -99,12 +99,18 @@ module _ (s : List ℕ) (hs : Bytes s) where
   unfolding between
   from-start at = ap (λ n. take n s) (let z : at - 0 ≡ at = omega arith in z)
 
+  line-one-is : (k n : ℕ) → line (letters "bitml") (k ∷ n ∷ []) ≡ letters "bitml" ++ field k ++ field n ++ (code "\n" ∷ [])
+  unfolding line fields
+  line-one-is k n =
+      ap (λ t. letters "bitml" ++ (field k ++ t) ++ (code "\n" ∷ [])) (append-nil (field n))
+      ∙ ap (λ t. t ++ (code "\n" ∷ [])) (sym (append-assoc (letters "bitml") (field k) (field n)))
+
   lines-back : (k n p : ℕ) (a : State) → lineOneAt s ≡ Counts k n p → Says s n (λ E. repeat n (defText E k)) (blank p) a → sheetText k (entries a) ≡ take (a .at) s
   unfolding sheetText
   lines-back k n p a e x =
       let i : length (a .defs) ≡ n = omega (arith, x .more) in
-      ap (λ j. letters "bitml" ++ field k ++ field j ++ (code "\n" ∷ []) ++ repeat j (defText (entries a) k) (placeOf (blank p)) .0) i
-      ∙ ap₂ _++_ (line-one-back k n p e) (ap (λ y. y .0) (x .says (entries a) (grown-same (entries a))))
+      ap (λ j. line (letters "bitml") (k ∷ j ∷ []) ++ repeat j (defText (entries a) k) (placeOf (blank p)) .0) i
+      ∙ ap₂ _++_ (line-one-is k n ∙ line-one-back k n p e) (ap (λ y. y .0) (x .says (entries a) (grown-same (entries a))))
       ∙ between-join s 0 p (a .at) (omega arith) (x .on) ∙ from-start (a .at)
 
   sheet-back : (l : LineOne) → lineOneAt s ≡ l → (K at : ℕ) (E : Entries) → sheetFrom s l ≡ accepted K at E → sheetText K E ≡ take at s

@@ -17,7 +17,7 @@ use Rattle.steps.proofs.Ends.{Ends, good, refused, ends-map, ends-field, ends-t
 use Rattle.contracts.specs.declared.Limits.{Limits}
 use Rattle.contracts.specs.Contract.{cWord, wWord, sWord, rWord, gWord, action, ContractReader, holdAt, leafAt, weighedAt, splitAt, listAt, openAt, revealAt, contractWith, actionAt, readBranch, insideAt, readContract}
 use Rattle.texts.specs.Text.{letters, field}
-use Rattle.writing.specs.Written.{Writer, word, say, _then_, repeat, nodeDone, branchDone, listedDone, conditionText, listedText, partText, actionText, branchText, contractText}
+use Rattle.writing.specs.Written.{Writer, word, say, _then_, repeat, nodeDone, branchDone, listedDone, conditionText, listedText, partText, leafText, splitText, revealText, actionText, branchText, contractText}
 use Rattle.writing.proofs.Says.{Starts, starts-same, starts-trans, starts-at, Grown, placeOf, Says, says-then, says-by, says-nothing, says-number, says-word, says-node, says-branch, says-listed, Quiet, quiet-then}
 use Rattle.writing.proofs.Conditions.{Spells, spells, condition-says}
 
@@ -89,7 +89,7 @@ module _ (s : List ℕ) (hs : Bytes s) where
         })) (λ t. refused)
 
     split-acts : (h : Head) (w e : ℕ) (a : State) → Spells (letters "s") w → wordAt s (a .at) ≡ Value w e → Ends (Acts h a) (splitAt s contract h (toPlace a e))
-    unfolding splitAt actionText
+    unfolding splitAt actionText splitText
     split-acts h w e a sp q =
         ends-field (toPlace a e) _ _ λ n e′ q′. ends-test _ _ _ (λ t. refused) λ t.
         let en = branchEntry h (action 1 n 0 0 0) in
@@ -103,7 +103,7 @@ module _ (s : List ℕ) (hs : Bytes s) where
         }
 
     reveal-acts : (h : Head) (secrets w e : ℕ) (a : State) → Spells (letters "r") w → wordAt s (a .at) ≡ Value w e → Ends (Acts h a) (revealAt s secrets contract h (toPlace a e))
-    unfolding revealAt openAt holdAt actionText
+    unfolding revealAt openAt holdAt actionText revealText
     reveal-acts h secrets w e a sp q =
         ends-field (toPlace a e) _ _ λ n e′ q′. ends-test _ _ _ (λ t. refused) λ t.
         ends-then _ _ (list-says secrets (length (a .listed)) n (toPlace a e′)) λ a₁ x.
@@ -123,7 +123,7 @@ module _ (s : List ℕ) (hs : Bytes s) where
 
     module _ (lim : Limits) where
       action-acts : (h : Head) (w e : ℕ) (a : State) → wordAt s (a .at) ≡ Value w e → Ends (Acts h a) (actionAt s lim contract h (a .at) (toPlace a e) w)
-      unfolding actionAt actionText packedOf packed _&_
+      unfolding actionAt actionText leafText packedOf packed _&_
       action-acts h w e a q =
           ends-test _ _ _ (λ t. leaf-acts h 0 (lim .people) (letters "w") w e a (spells (letters "w") wWord w refl refl refl t) q (λ p E. refl)) λ t.
           ends-test _ _ _ (λ t. split-acts h w e a (spells (letters "s") sWord w refl refl refl t) q) λ t.

@@ -8,7 +8,7 @@ use lib.ListN.{length}
 use lib.Dec.{eqb}
 use Rattle.tables.specs.Entries.{BranchEntry, Entries}
 use Rattle.tables.specs.SheetOf.{nodeEntryAt, branchEntryAt, defEntryAt, listedAt, cellAt}
-use Rattle.texts.specs.Text.{letters, field}
+use Rattle.texts.specs.Text.{letters, field, line}
 
 -- ---- pieces of text
 
@@ -64,6 +64,11 @@ conditionWord c =
 unfoldable pub expressionWord : ℕ → List ℕ
 expressionWord c = cond (eqb c 0) (word "k") (cond (eqb c 1) (word "v") (cond (eqb c 2) (word "add") (word "sub")))
 
+-- ---- "`w`,p", "`g`,d": a word and a number
+
+unfoldable pub leafText : List ℕ → ℕ → Writer
+leafText w n = say w then say (field n) then branchDone
+
 module _ (E : Entries) where
   -- A number that is a cell: of a `k` or a `v`
   unfoldable pub numberText : Writer
@@ -98,14 +103,21 @@ module _ (E : Entries) where
   unfoldable pub partText : Writer → Writer
   partText contract p = (say (field (nodeEntryAt E (p .node) .weight)) then contract) p
 
-  -- "action": of the branch that is due
+  -- "`s`,n, then n times weight and contract"
+  unfoldable pub splitText : Writer → ℕ → Writer
+  splitText contract n = say (word "s") then say (field n) then branchDone then repeat n (partText contract)
+
+  -- "`r`, count, secrets, condition, contract"
+  unfoldable pub revealText : Writer → ℕ → Writer
+  revealText contract n = say (word "r") then say (field n) then repeat n listedText then conditionText 64 then branchDone then contract
+
+  -- "an action": of the branch that is due
   unfoldable pub actionText : Writer → BranchEntry → Writer
   actionText contract e =
-      cond (eqb (e .kind) 0) (say (word "w") then say (field (e .arg)) then branchDone)
-      (cond (eqb (e .kind) 1) (say (word "s") then say (field (e .arg)) then branchDone then repeat (e .arg) (partText contract))
-      (cond (eqb (e .kind) 2)
-      (say (word "r") then say (field (e .count)) then repeat (e .count) listedText then conditionText 64 then branchDone then contract)
-      (say (word "g") then say (field (e .arg)) then branchDone)))
+      cond (eqb (e .kind) 0) (leafText (word "w") (e .arg))
+      (cond (eqb (e .kind) 1) (splitText contract (e .arg))
+      (cond (eqb (e .kind) 2) (revealText contract (e .count))
+      (leafText (word "g") (e .arg))))
 
   -- "branch: signers, opening time, an action"
   unfoldable pub branchText : Writer → Writer
@@ -128,8 +140,10 @@ module _ (E : Entries) where
       (say (letters "def") then repeat K listedText then say (field (defEntryAt E (p .def) .secrets)) then repeat (defEntryAt E (p .def) .secrets) listedText
       then defDone then contractText 32 then say (code "\n" ∷ [])) p
 
+-- Where writing starts
+abbrev pub start : Place
+start = record { node = 0; branch = 0; def = 0; listed = 0; cell = 0 }
+
 -- "Line 1: `bitml`, K participants, F definitions", and the `def` lines
 unfoldable pub sheetText : ℕ → Entries → List ℕ
-sheetText K E =
-    letters "bitml" ++ field K ++ field (length (E .defs)) ++ (code "\n" ∷ [])
-    ++ repeat (length (E .defs)) (defText E K) (record { node = 0; branch = 0; def = 0; listed = 0; cell = 0 }) .0
+sheetText K E = line (letters "bitml") (K ∷ length (E .defs) ∷ []) ++ repeat (length (E .defs)) (defText E K) start .0

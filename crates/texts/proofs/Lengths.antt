@@ -60,7 +60,7 @@ fields-length : (n : ℕ) (ns : List ℕ) → length (fields (n ∷ ns)) ≡ 1 +
 unfolding fields field
 fields-length n ns = omega (arith, length-append (field n) (fields ns))
 
-line-length : (w ns : List ℕ) → length (line w ns) ≡ length w + length (fields ns) + 1
+pub line-length : (w ns : List ℕ) → length (line w ns) ≡ length w + length (fields ns) + 1
 unfolding line
 line-length w ns = length-append (w ++ fields ns) (10 ∷ []) ∙ ap (λ k. k + 1) (length-append w (fields ns))
 

@@ -9,7 +9,7 @@ ghost use Rattle.requests.specs.Rows.{rowsOf};
 ghost use Rattle.texts.specs.Text.{decimal, fields, line, lineText, linesText};
 ghost use Rattle.texts.specs.Wrote.{Wrote};
 
-fn put_byte(out: &mut [u8], at: usize, b: u8) -> usize
+pub fn put_byte(out: &mut [u8], at: usize, b: u8) -> usize
     requires { ⌜ at < length (now out) ⌝ }
     ensures { λ r. ⌜ Wrote (now (out .entry)) at (b ∷ []) (now (out .exit)) r ⌝ }
 {
@@ -17,7 +17,7 @@ fn put_byte(out: &mut [u8], at: usize, b: u8) -> usize
     at + 1
 }
 
-fn put_word(out: &mut [u8], at: usize, word: &[u8]) -> usize
+pub fn put_word(out: &mut [u8], at: usize, word: &[u8]) -> usize
     requires { ⌜ at + length (now word) ≤ length (now out) ⌝ }
     ensures { λ r. ⌜ Wrote (now (out .entry)) at (now (word .entry)) (now (out .exit)) r ⌝ }
 {
@@ -30,7 +30,7 @@ fn put_word(out: &mut [u8], at: usize, word: &[u8]) -> usize
     e
 }
 
-fn put_number(out: &mut [u8], at: usize, n: usize) -> usize
+pub fn put_number(out: &mut [u8], at: usize, n: usize) -> usize
     requires { ⌜ at + length (decimal n) ≤ length (now out) ⌝ }
     ensures { λ r. ⌜ Wrote (now (out .entry)) at (decimal n) (now (out .exit)) r ⌝ }
 {
@@ -57,7 +57,7 @@ fn put_fields(out: &mut [u8], at: usize, numbers: &[usize]) -> usize
     e
 }
 
-fn put_line(out: &mut [u8], at: usize, word: &[u8], numbers: &[usize]) -> usize
+pub fn put_line(out: &mut [u8], at: usize, word: &[u8], numbers: &[usize]) -> usize
     requires { ⌜ at + length (now word) + 21 * length (now numbers) < length (now out) ⌝ }
     ensures { λ r. ⌜ Wrote (now (out .entry)) at (line (now (word .entry)) (now (numbers .entry))) (now (out .exit)) r ⌝ }
 {

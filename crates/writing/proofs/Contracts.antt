@@ -9,7 +9,7 @@ use Rattle.fields.specs.declared.Got.the-variants.{Value}
 use Rattle.fields.proofs.Words.{Bytes}
 use Rattle.tables.specs.declared.Head.{Head}
 use Rattle.tables.specs.declared.Action.{Action}
-use Rattle.tables.specs.Entries.{NodeEntry, Entries}
+use Rattle.tables.specs.Entries.{NodeEntry, BranchEntry, Entries}
 use Rattle.tables.specs.SheetOf.{nodeEntryAt}
 use Rattle.tables.specs.State.{State, entries, withNode, withBranch, withListed, nodeEntry, branchEntry}
 use Rattle.steps.specs.Steps.{Outcome, toPlace, times}
@@ -74,17 +74,22 @@ module _ (s : List ℕ) (hs : Bytes s) where
       text : Says s 0 (λ E. actionText E (f E) (branchEntry h act)) a b
       entry : Starts (a .branches ++ (branchEntry h act ∷ [])) (b .branches)
 
+    -- a word, a number and the branch's own entry
+    leaf-says : (u : List ℕ) (w e max p e′ : ℕ) (en : BranchEntry) (a : State) → Spells u w → wordAt s (a .at) ≡ Value w e → numberAt s e max ≡ Value p e′
+        → Says s 0 (λ E. leafText (comma ∷ u) p) a (withBranch en (toPlace a e′))
+    unfolding leafText
+    leaf-says u w e max p e′ en a sp q q′ =
+        says-then s (λ E. say (comma ∷ u)) (λ E. say (field p) then branchDone) (says-word s hs a w e u (sp .bytes) (sp .number) (sp .some) q)
+        (says-then s (λ E. say (field p)) (λ E. branchDone) (says-number s (toPlace a e) max p e′ q′) (says-branch s en (toPlace a e′)))
+
     leaf-acts : (h : Head) (kind limit : ℕ) (u : List ℕ) (w e : ℕ) (a : State) → Spells u w → wordAt s (a .at) ≡ Value w e
-        → ((p : ℕ) (E : Entries) → actionText E (f E) (branchEntry h (action kind p 0 0 0)) ≡ (say (comma ∷ u) then say (field p) then branchDone))
+        → ((p : ℕ) (E : Entries) → actionText E (f E) (branchEntry h (action kind p 0 0 0)) ≡ leafText (comma ∷ u) p)
         → Ends (Acts h a) (leafAt s h kind limit (toPlace a e))
     unfolding leafAt
     leaf-acts h kind limit u w e a sp q match =
         ends-field (toPlace a e) _ _ λ p e′ q′. ends-test _ _ _ (λ t. good (record {
           act = action kind p 0 0 0;
-          text = says-by s (λ E. say (comma ∷ u) then say (field p) then branchDone) _
-              (says-then s (λ E. say (comma ∷ u)) (λ E. say (field p) then branchDone) (says-word s hs a w e u (sp .bytes) (sp .number) (sp .some) q)
-              (says-then s (λ E. say (field p)) (λ E. branchDone) (says-number s (toPlace a e) anyNumber p e′ q′) (says-branch s (branchEntry h (action kind p 0 0 0)) (toPlace a e′))))
-              (λ E g. ap (λ x. x (placeOf a)) (match p E));
+          text = says-by s (λ E. leafText (comma ∷ u) p) _ (leaf-says u w e anyNumber p e′ (branchEntry h (action kind p 0 0 0)) a sp q q′) (λ E g. ap (λ x. x (placeOf a)) (match p E));
           entry = starts-same (a .branches ++ (branchEntry h (action kind p 0 0 0) ∷ []));
         })) (λ t. refused)
 
@@ -95,10 +100,7 @@ module _ (s : List ℕ) (hs : Bytes s) where
         let en = branchEntry h (action 1 n 0 0 0) in
         ends-map (weighed-says (length (a .branches)) 0 n (withBranch en (toPlace a e′))) λ b x. record {
           act = action 1 n 0 0 0;
-          text =
-              says-then s (λ E. say (word "s")) (λ E. say (field n) then branchDone then repeat n (partText E (f E))) (says-word s hs a w e (letters "s") (sp .bytes) (sp .number) (sp .some) q)
-              (says-then s (λ E. say (field n)) (λ E. branchDone then repeat n (partText E (f E))) (says-number s (toPlace a e) 8 n e′ q′)
-              (says-then s (λ E. branchDone) (λ E. repeat n (partText E (f E))) (says-branch s en (toPlace a e′)) x));
+          text = says-then s (λ E. leafText (word "s") n) (λ E. repeat n (partText E (f E))) (leaf-says (letters "s") w e 8 n e′ en a sp q q′) x;
           entry = x .grown .branches;
         }
 

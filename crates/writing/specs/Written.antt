@@ -105,7 +105,7 @@ module _ (E : Entries) where
 
   -- "`s`,n, then n times weight and contract"
   unfoldable pub splitText : Writer → ℕ → Writer
-  splitText contract n = say (word "s") then say (field n) then branchDone then repeat n (partText contract)
+  splitText contract n = leafText (word "s") n then repeat n (partText contract)
 
   -- "`r`, count, secrets, condition, contract"
   unfoldable pub revealText : Writer → ℕ → Writer

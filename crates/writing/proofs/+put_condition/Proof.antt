@@ -1,0 +1,152 @@
+use Rattle.writing.proofs.Putting.{on-then, full-then, room-on, long-on, stay, condition-word-some, cell-room, cell-next}
+use Rattle.writing.proofs.Rules.{clauses-none, clauses-not, clauses-and, clauses-two, condition-none, condition-more}
+use mathlib.Core.Path.{_≡_, refl, _∙_}
+use native.Mathlib.Omega.{arith}
+use borrow.Author.Needs.{needs}
+use Prim.Native.Nat.{ℕ, _<_}
+use borrow.Fn.Kinds.{In}
+use borrow.Fn.PlainCycle.{Measures, is, falls, and}
+use Rattle.writing.proofs.put_condition.Reads as put-condition
+use Rattle.writing.proofs.put_condition.Kinds as put-condition-kinds
+use Rattle.writing.proofs.+put_condition.Lts-put_condition as put-condition-lts
+use Rattle.writing.proofs.both_expressions.Reads as both-expressions-reads
+use Rattle.writing.proofs.cell_done.Reads as cell-done-reads
+use Rattle.writing.proofs.cell_of.Reads as cell-of-reads
+use Rattle.writing.proofs.condition_word.Reads as condition-word-reads
+use Rattle.writing.proofs.+put_condition.{statement}
+use Rattle.writing.proofs.+put_condition.Tie.{close}
+
+abbrev μ-put-condition : Measures 2 put-condition-kinds.ps ℕ
+μ-put-condition κs a = a .1 .1 .0
+
+abbrev put-condition-at : ℕ → In 2 put-condition-kinds.ps
+put-condition-at t =
+    and 2 put-condition-kinds.ps (is 2 put-condition-kinds.ps μ-put-condition t) put-condition.Pre
+
+abbrev put-condition-below : ℕ → In 2 put-condition-kinds.ps
+put-condition-below t =
+    and
+    2
+    put-condition-kinds.ps
+    (falls 2 put-condition-kinds.ps _<_ μ-put-condition t)
+    put-condition.Pre
+
+abbrev put-condition-callees : ℕ → put-condition-lts.Claims
+put-condition-callees t = (cell-of-reads.Asked, cell-of-reads.Learnt, condition-word-reads.Asked, condition-word-reads.Learnt, cell-done-reads.Asked, cell-done-reads.Learnt, put-condition-below t, put-condition.Post, both-expressions-reads.Asked, both-expressions-reads.Learnt)
+
+put-condition-returns : (t : ℕ) → put-condition-lts.Need-returns (put-condition-callees t) (put-condition-at t) put-condition.Post
+put-condition-returns t c = condition-none _ _ _ (c .if1 .taken) (stay _ _ (c .before .before .before .pre .1 .1 .small))
+
+put-condition-cell-of-requires : (t : ℕ) → put-condition-lts.Need-cell-of-requires (put-condition-callees t) (put-condition-at t) put-condition.Post
+put-condition-cell-of-requires t c κs = c .before .before .before .pre .1 .0
+
+put-condition-condition-word-requires : (t : ℕ) → put-condition-lts.Need-condition-word-requires (put-condition-callees t) (put-condition-at t) put-condition.Post
+put-condition-condition-word-requires t c κs = c .before .before .before .before .before .pre .1 .1
+
+put-condition-enum-known-g : (t : ℕ) → put-condition-lts.Need-enum-known-g (put-condition-callees t) (put-condition-at t) put-condition.Post
+put-condition-enum-known-g t c = search needs
+
+put-condition-enum-told : (t : ℕ) → put-condition-lts.Need-enum-told (put-condition-callees t) (put-condition-at t) put-condition.Post
+put-condition-enum-told t c = search needs
+
+put-condition-same-length : (t : ℕ) → put-condition-lts.Need-same-length (put-condition-callees t) (put-condition-at t) put-condition.Post
+put-condition-same-length t c = long-on _ (c .before .before .before .before .condition-word .ensures)
+
+put-condition-returns-2 : (t : ℕ) → put-condition-lts.Need-returns-2 (put-condition-callees t) (put-condition-at t) put-condition.Post
+put-condition-returns-2 t c = condition-more _ _ _ _ (c .before .before .before .before .before .before .before .if1 .left) (c .before .before .before .before .before .before .cell-of .ensures) (full-then _ _ _ (c .before .before .before .before .condition-word .ensures) (c .enum-told .given .1))
+
+put-condition-cell-done-requires : (t : ℕ) → put-condition-lts.Need-cell-done-requires (put-condition-callees t) (put-condition-at t) put-condition.Post
+put-condition-cell-done-requires t c κs = let s = (c .before .before .before .before .before .condition-word .ensures) .on _ (c .before .g .given .1) .small in omega (arith, s .short, s .cells)
+
+put-condition-same-length-2 : (t : ℕ) → put-condition-lts.Need-same-length-2 (put-condition-callees t) (put-condition-at t) put-condition.Post
+put-condition-same-length-2 t c = long-on _ (c .before .before .before .before .before .before .before .condition-word .ensures)
+
+put-condition-returns-3 : (t : ℕ) → put-condition-lts.Need-returns-3 (put-condition-callees t) (put-condition-at t) put-condition.Post
+put-condition-returns-3 t c = condition-more _ _ _ _ (c .before .before .before .before .before .before .before .before .before .before .if1 .left) (c .before .before .before .before .before .before .before .before .before .cell-of .ensures) (cell-next _ _ _ _ (c .before .before .before .before .before .before .before .condition-word .ensures) (c .before .before .before .g .given .1) (c .before .before .before .before .before .before .before .before .before .before .before .before .before .pre .1 .1 .small) (condition-word-some _) (c .before .cell-done .ensures) _ (clauses-none _ _ _ _ _ (c .if2 .taken) (stay _ _ (cell-room _ _ _ _ (c .before .before .before .before .before .before .before .condition-word .ensures) (c .before .before .before .g .given .1) (c .before .before .before .before .before .before .before .before .before .before .before .before .before .pre .1 .1 .small) (condition-word-some _) (c .before .cell-done .ensures) (c .before .before .before .before .before .before .before .before .before .before .before .before .before .pre .1 .1 .long) .small))))
+
+put-condition-sub-put-condition : (t : ℕ) → put-condition-lts.Need-sub-put-condition (put-condition-callees t) (put-condition-at t) put-condition.Post
+put-condition-sub-put-condition t c = omega (arith, c .before .before .before .before .before .before .before .before .before .before .before .if1 .left)
+
+put-condition-put-condition-requires : (t : ℕ) → put-condition-lts.Need-put-condition-requires (put-condition-callees t) (put-condition-at t) put-condition.Post
+put-condition-put-condition-requires t c κs = (omega (arith, c .before .before .before .before .before .before .before .before .before .before .before .before .before .before .before .pre .0, c .before .before .before .before .before .before .before .before .before .before .before .before .if1 .left), (c .before .before .before .before .before .before .before .before .before .before .before .before .before .before .before .pre .1 .0, cell-room _ _ _ _ (c .before .before .before .before .before .before .before .before .before .condition-word .ensures) (c .before .before .before .before .before .g .given .1) (c .before .before .before .before .before .before .before .before .before .before .before .before .before .before .before .pre .1 .1 .small) (condition-word-some _) (c .before .before .before .cell-done .ensures) (c .before .before .before .before .before .before .before .before .before .before .before .before .before .before .before .pre .1 .1 .long)))
+
+put-condition-same-length-3 : (t : ℕ) → put-condition-lts.Need-same-length-3 (put-condition-callees t) (put-condition-at t) put-condition.Post
+put-condition-same-length-3 t c = long-on _ (c .before .before .put-condition .ensures) ∙ long-on _ (c .before .before .before .before .before .before .before .before .before .before .before .before .condition-word .ensures)
+
+put-condition-returns-4 : (t : ℕ) → put-condition-lts.Need-returns-4 (put-condition-callees t) (put-condition-at t) put-condition.Post
+put-condition-returns-4 t c = condition-more _ _ _ _ (c .before .before .before .before .before .before .before .before .before .before .before .before .before .before .before .if1 .left) (c .before .before .before .before .before .before .before .before .before .before .before .before .before .before .cell-of .ensures) (cell-next _ _ _ _ (c .before .before .before .before .before .before .before .before .before .before .before .before .condition-word .ensures) (c .before .before .before .before .before .before .before .before .g .given .1) (c .before .before .before .before .before .before .before .before .before .before .before .before .before .before .before .before .before .before .pre .1 .1 .small) (condition-word-some _) (c .before .before .before .before .before .before .cell-done .ensures) _ (clauses-not _ _ _ _ _ (c .before .before .before .before .if3 .taken) (c .before .before .put-condition .ensures)))
+
+put-condition-sub-both-expressions : (t : ℕ) → put-condition-lts.Need-sub-both-expressions (put-condition-callees t) (put-condition-at t) put-condition.Post
+put-condition-sub-both-expressions t c = omega (arith, c .before .before .before .before .before .before .before .before .before .before .before .before .if1 .left)
+
+put-condition-both-expressions-requires : (t : ℕ) → put-condition-lts.Need-both-expressions-requires (put-condition-callees t) (put-condition-at t) put-condition.Post
+put-condition-both-expressions-requires t c κs = (c .before .before .before .before .before .before .before .before .before .before .before .before .before .before .before .before .pre .1 .0, cell-room _ _ _ _ (c .before .before .before .before .before .before .before .before .before .before .condition-word .ensures) (c .before .before .before .before .before .before .g .given .1) (c .before .before .before .before .before .before .before .before .before .before .before .before .before .before .before .before .pre .1 .1 .small) (condition-word-some _) (c .before .before .before .before .cell-done .ensures) (c .before .before .before .before .before .before .before .before .before .before .before .before .before .before .before .before .pre .1 .1 .long))
+
+put-condition-same-length-4 : (t : ℕ) → put-condition-lts.Need-same-length-4 (put-condition-callees t) (put-condition-at t) put-condition.Post
+put-condition-same-length-4 t c = long-on _ (c .before .before .both-expressions .ensures) ∙ long-on _ (c .before .before .before .before .before .before .before .before .before .before .before .before .before .condition-word .ensures)
+
+put-condition-returns-5 : (t : ℕ) → put-condition-lts.Need-returns-5 (put-condition-callees t) (put-condition-at t) put-condition.Post
+put-condition-returns-5 t c = condition-more _ _ _ _ (c .before .before .before .before .before .before .before .before .before .before .before .before .before .before .before .before .if1 .left) (c .before .before .before .before .before .before .before .before .before .before .before .before .before .before .before .cell-of .ensures) (cell-next _ _ _ _ (c .before .before .before .before .before .before .before .before .before .before .before .before .before .condition-word .ensures) (c .before .before .before .before .before .before .before .before .before .g .given .1) (c .before .before .before .before .before .before .before .before .before .before .before .before .before .before .before .before .before .before .before .pre .1 .1 .small) (condition-word-some _) (c .before .before .before .before .before .before .before .cell-done .ensures) _ (clauses-two _ _ _ _ _ (c .before .before .before .before .before .before .if2 .left) (c .before .before .before .before .if4 .taken) (c .before .before .before .before .before .if3 .left) (c .before .before .both-expressions .ensures)))
+
+put-condition-sub-put-condition-2 : (t : ℕ) → put-condition-lts.Need-sub-put-condition-2 (put-condition-callees t) (put-condition-at t) put-condition.Post
+put-condition-sub-put-condition-2 t c = omega (arith, c .before .before .before .before .before .before .before .before .before .before .before .before .if1 .left)
+
+put-condition-put-condition-requires-2 : (t : ℕ) → put-condition-lts.Need-put-condition-requires-2 (put-condition-callees t) (put-condition-at t) put-condition.Post
+put-condition-put-condition-requires-2 t c κs = (omega (arith, c .before .before .before .before .before .before .before .before .before .before .before .before .before .before .before .before .pre .0, c .before .before .before .before .before .before .before .before .before .before .before .before .before .if1 .left), (c .before .before .before .before .before .before .before .before .before .before .before .before .before .before .before .before .pre .1 .0, cell-room _ _ _ _ (c .before .before .before .before .before .before .before .before .before .before .condition-word .ensures) (c .before .before .before .before .before .before .g .given .1) (c .before .before .before .before .before .before .before .before .before .before .before .before .before .before .before .before .pre .1 .1 .small) (condition-word-some _) (c .before .before .before .before .cell-done .ensures) (c .before .before .before .before .before .before .before .before .before .before .before .before .before .before .before .before .pre .1 .1 .long)))
+
+put-condition-enum-known-h : (t : ℕ) → put-condition-lts.Need-enum-known-h (put-condition-callees t) (put-condition-at t) put-condition.Post
+put-condition-enum-known-h t c = search needs
+
+put-condition-enum-told-2 : (t : ℕ) → put-condition-lts.Need-enum-told-2 (put-condition-callees t) (put-condition-at t) put-condition.Post
+put-condition-enum-told-2 t c = search needs
+
+put-condition-same-length-5 : (t : ℕ) → put-condition-lts.Need-same-length-5 (put-condition-callees t) (put-condition-at t) put-condition.Post
+put-condition-same-length-5 t c = long-on _ (c .before .before .before .before .put-condition2 .ensures) ∙ long-on _ (c .before .before .before .before .before .before .before .before .before .before .before .before .before .before .before .condition-word .ensures)
+
+put-condition-returns-6 : (t : ℕ) → put-condition-lts.Need-returns-6 (put-condition-callees t) (put-condition-at t) put-condition.Post
+put-condition-returns-6 t c = condition-more _ _ _ _ (c .before .before .before .before .before .before .before .before .before .before .before .before .before .before .before .before .before .before .if1 .left) (c .before .before .before .before .before .before .before .before .before .before .before .before .before .before .before .before .before .cell-of .ensures) (cell-next _ _ _ _ (c .before .before .before .before .before .before .before .before .before .before .before .before .before .before .before .condition-word .ensures) (c .before .before .before .before .before .before .before .before .before .before .before .g .given .1) (c .before .before .before .before .before .before .before .before .before .before .before .before .before .before .before .before .before .before .before .before .before .pre .1 .1 .small) (condition-word-some _) (c .before .before .before .before .before .before .before .before .before .cell-done .ensures) _ (clauses-and _ _ _ _ _ (c .before .before .before .before .before .before .if4 .left) (full-then _ _ _ (c .before .before .before .before .put-condition2 .ensures) (c .enum-told2 .given .1))))
+
+put-condition-sub-put-condition-3 : (t : ℕ) → put-condition-lts.Need-sub-put-condition-3 (put-condition-callees t) (put-condition-at t) put-condition.Post
+put-condition-sub-put-condition-3 t c = omega (arith, c .before .before .before .before .before .before .before .before .before .before .before .before .before .before .before .before .before .before .before .if1 .left)
+
+put-condition-put-condition-requires-3 : (t : ℕ) → put-condition-lts.Need-put-condition-requires-3 (put-condition-callees t) (put-condition-at t) put-condition.Post
+put-condition-put-condition-requires-3 t c κs = (omega (arith, c .before .before .before .before .before .before .before .before .before .before .before .before .before .before .before .before .before .before .before .before .before .before .before .pre .0, c .before .before .before .before .before .before .before .before .before .before .before .before .before .before .before .before .before .before .before .before .if1 .left), (c .before .before .before .before .before .before .before .before .before .before .before .before .before .before .before .before .before .before .before .before .before .before .before .pre .1 .0, room-on _ (omega (arith, c .before .before .before .before .before .before .before .before .before .before .before .before .before .before .before .before .before .before .before .before .before .before .before .pre .1 .1 .long, long-on _ (c .before .before .before .before .before .before .before .before .before .before .before .before .before .before .before .before .before .condition-word .ensures))) (c .before .before .before .before .before .before .put-condition2 .ensures) (c .before .before .h .given .1)))
+
+put-condition-same-length-6 : (t : ℕ) → put-condition-lts.Need-same-length-6 (put-condition-callees t) (put-condition-at t) put-condition.Post
+put-condition-same-length-6 t c = long-on _ (c .before .before .put-condition3 .ensures) ∙ long-on _ (c .before .before .before .before .before .before .before .before .before .put-condition2 .ensures) ∙ long-on _ (c .before .before .before .before .before .before .before .before .before .before .before .before .before .before .before .before .before .before .before .before .condition-word .ensures)
+
+put-condition-returns-7 : (t : ℕ) → put-condition-lts.Need-returns-7 (put-condition-callees t) (put-condition-at t) put-condition.Post
+put-condition-returns-7 t c = condition-more _ _ _ _ (c .before .before .before .before .before .before .before .before .before .before .before .before .before .before .before .before .before .before .before .before .before .before .before .if1 .left) (c .before .before .before .before .before .before .before .before .before .before .before .before .before .before .before .before .before .before .before .before .before .before .cell-of .ensures) (cell-next _ _ _ _ (c .before .before .before .before .before .before .before .before .before .before .before .before .before .before .before .before .before .before .before .before .condition-word .ensures) (c .before .before .before .before .before .before .before .before .before .before .before .before .before .before .before .before .g .given .1) (c .before .before .before .before .before .before .before .before .before .before .before .before .before .before .before .before .before .before .before .before .before .before .before .before .before .before .pre .1 .1 .small) (condition-word-some _) (c .before .before .before .before .before .before .before .before .before .before .before .before .before .before .cell-done .ensures) _ (clauses-and _ _ _ _ _ (c .before .before .before .before .before .before .before .before .before .before .before .if4 .left) (on-then _ _ _ _ (c .before .before .before .before .before .before .before .before .before .put-condition2 .ensures) (c .before .before .before .before .before .h .given .1) (c .before .before .put-condition3 .ensures))))
+
+pub +put-condition-spec : {M : Type 1} → statement M
++put-condition-spec = close μ-put-condition λ t. put-condition-lts.spec (put-condition-callees t)
+    (put-condition-at t)
+    put-condition.Post
+    (put-condition-returns t)
+    (put-condition-cell-of-requires t)
+    (put-condition-condition-word-requires t)
+    (put-condition-enum-known-g t)
+    (put-condition-enum-told t)
+    (put-condition-same-length t)
+    (put-condition-returns-2 t)
+    (put-condition-cell-done-requires t)
+    (put-condition-same-length-2 t)
+    (put-condition-returns-3 t)
+    (put-condition-sub-put-condition t)
+    (put-condition-put-condition-requires t)
+    (put-condition-same-length-3 t)
+    (put-condition-returns-4 t)
+    (put-condition-sub-both-expressions t)
+    (put-condition-both-expressions-requires t)
+    (put-condition-same-length-4 t)
+    (put-condition-returns-5 t)
+    (put-condition-sub-put-condition-2 t)
+    (put-condition-put-condition-requires-2 t)
+    (put-condition-enum-known-h t)
+    (put-condition-enum-told-2 t)
+    (put-condition-same-length-5 t)
+    (put-condition-returns-6 t)
+    (put-condition-sub-put-condition-3 t)
+    (put-condition-put-condition-requires-3 t)
+    (put-condition-same-length-6 t)
+    (put-condition-returns-7 t)

@@ -1,0 +1,140 @@
+use Rattle.writing.proofs.Putting.{on-then, full-then, room-on, long-on, stay, expression-word-some, cell-room, cell-next}
+use Rattle.writing.proofs.Rules.{operands-number, operands-two, expression-none, expression-more}
+use mathlib.Core.Path.{_≡_, refl, _∙_}
+use native.Mathlib.Omega.{arith}
+use borrow.Author.Needs.{needs}
+use Prim.Native.Nat.{ℕ, _<_}
+use borrow.Fn.Kinds.{In}
+use borrow.Fn.PlainCycle.{Measures, is, falls, and}
+use Rattle.writing.proofs.put_expression.Reads as put-expression
+use Rattle.writing.proofs.put_expression.Kinds as put-expression-kinds
+use Rattle.writing.proofs.+put_expression.Lts-put_expression as put-expression-lts
+use Rattle.writing.proofs.cell_done.Reads as cell-done-reads
+use Rattle.writing.proofs.cell_of.Reads as cell-of-reads
+use Rattle.writing.proofs.expression_word.Reads as expression-word-reads
+use Rattle.writing.proofs.put_cell.Reads as put-cell-reads
+use Rattle.writing.proofs.+put_expression.{statement}
+use Rattle.writing.proofs.+put_expression.Tie.{close}
+
+abbrev μ-put-expression : Measures 2 put-expression-kinds.ps ℕ
+μ-put-expression κs a = a .1 .1 .0
+
+abbrev put-expression-at : ℕ → In 2 put-expression-kinds.ps
+put-expression-at t =
+    and
+    2
+    put-expression-kinds.ps
+    (is 2 put-expression-kinds.ps μ-put-expression t)
+    put-expression.Pre
+
+abbrev put-expression-below : ℕ → In 2 put-expression-kinds.ps
+put-expression-below t =
+    and
+    2
+    put-expression-kinds.ps
+    (falls 2 put-expression-kinds.ps _<_ μ-put-expression t)
+    put-expression.Pre
+
+abbrev put-expression-callees : ℕ → put-expression-lts.Claims
+put-expression-callees t = (cell-of-reads.Asked, cell-of-reads.Learnt, expression-word-reads.Asked, expression-word-reads.Learnt, cell-done-reads.Asked, cell-done-reads.Learnt, put-cell-reads.Asked, put-cell-reads.Learnt, put-expression-below t, put-expression.Post)
+
+put-expression-returns : (t : ℕ) → put-expression-lts.Need-returns (put-expression-callees t) (put-expression-at t) put-expression.Post
+put-expression-returns t c = expression-none _ _ _ (c .if1 .taken) (stay _ _ (c .before .before .before .pre .1 .1 .small))
+
+put-expression-cell-of-requires : (t : ℕ) → put-expression-lts.Need-cell-of-requires (put-expression-callees t) (put-expression-at t) put-expression.Post
+put-expression-cell-of-requires t c κs = c .before .before .before .pre .1 .0
+
+put-expression-expression-word-requires : (t : ℕ) → put-expression-lts.Need-expression-word-requires (put-expression-callees t) (put-expression-at t) put-expression.Post
+put-expression-expression-word-requires t c κs = c .before .before .before .before .before .pre .1 .1
+
+put-expression-enum-known-g : (t : ℕ) → put-expression-lts.Need-enum-known-g (put-expression-callees t) (put-expression-at t) put-expression.Post
+put-expression-enum-known-g t c = search needs
+
+put-expression-enum-told : (t : ℕ) → put-expression-lts.Need-enum-told (put-expression-callees t) (put-expression-at t) put-expression.Post
+put-expression-enum-told t c = search needs
+
+put-expression-same-length : (t : ℕ) → put-expression-lts.Need-same-length (put-expression-callees t) (put-expression-at t) put-expression.Post
+put-expression-same-length t c = long-on _ (c .before .before .before .before .expression-word .ensures)
+
+put-expression-returns-2 : (t : ℕ) → put-expression-lts.Need-returns-2 (put-expression-callees t) (put-expression-at t) put-expression.Post
+put-expression-returns-2 t c = expression-more _ _ _ _ (c .before .before .before .before .before .before .before .if1 .left) (c .before .before .before .before .before .before .cell-of .ensures) (full-then _ _ _ (c .before .before .before .before .expression-word .ensures) (c .enum-told .given .1))
+
+put-expression-cell-done-requires : (t : ℕ) → put-expression-lts.Need-cell-done-requires (put-expression-callees t) (put-expression-at t) put-expression.Post
+put-expression-cell-done-requires t c κs = let s = (c .before .before .before .before .before .expression-word .ensures) .on _ (c .before .g .given .1) .small in omega (arith, s .short, s .cells)
+
+put-expression-put-cell-requires : (t : ℕ) → put-expression-lts.Need-put-cell-requires (put-expression-callees t) (put-expression-at t) put-expression.Post
+put-expression-put-cell-requires t c κs = (c .before .before .before .before .before .before .before .before .before .before .before .before .before .before .pre .1 .0, cell-room _ _ _ _ (c .before .before .before .before .before .before .before .before .expression-word .ensures) (c .before .before .before .before .g .given .1) (c .before .before .before .before .before .before .before .before .before .before .before .before .before .before .pre .1 .1 .small) (expression-word-some _) (c .before .before .cell-done .ensures) (c .before .before .before .before .before .before .before .before .before .before .before .before .before .before .pre .1 .1 .long))
+
+put-expression-same-length-2 : (t : ℕ) → put-expression-lts.Need-same-length-2 (put-expression-callees t) (put-expression-at t) put-expression.Post
+put-expression-same-length-2 t c = long-on _ (c .before .before .put-cell .ensures) ∙ long-on _ (c .before .before .before .before .before .before .before .before .before .before .before .expression-word .ensures)
+
+put-expression-returns-3 : (t : ℕ) → put-expression-lts.Need-returns-3 (put-expression-callees t) (put-expression-at t) put-expression.Post
+put-expression-returns-3 t c = expression-more _ _ _ _ (c .before .before .before .before .before .before .before .before .before .before .before .before .before .before .if1 .left) (c .before .before .before .before .before .before .before .before .before .before .before .before .before .cell-of .ensures) (cell-next _ _ _ _ (c .before .before .before .before .before .before .before .before .before .before .before .expression-word .ensures) (c .before .before .before .before .before .before .before .g .given .1) (c .before .before .before .before .before .before .before .before .before .before .before .before .before .before .before .before .before .pre .1 .1 .small) (expression-word-some _) (c .before .before .before .before .before .cell-done .ensures) _ (operands-number _ _ _ _ (omega (arith, c .before .before .before .before .if2 .taken)) (c .before .before .put-cell .ensures)))
+
+put-expression-put-cell-requires-2 : (t : ℕ) → put-expression-lts.Need-put-cell-requires-2 (put-expression-callees t) (put-expression-at t) put-expression.Post
+put-expression-put-cell-requires-2 t c κs = (c .before .before .before .before .before .before .before .before .before .before .before .before .before .before .before .pre .1 .0, cell-room _ _ _ _ (c .before .before .before .before .before .before .before .before .before .expression-word .ensures) (c .before .before .before .before .before .g .given .1) (c .before .before .before .before .before .before .before .before .before .before .before .before .before .before .before .pre .1 .1 .small) (expression-word-some _) (c .before .before .before .cell-done .ensures) (c .before .before .before .before .before .before .before .before .before .before .before .before .before .before .before .pre .1 .1 .long))
+
+put-expression-same-length-3 : (t : ℕ) → put-expression-lts.Need-same-length-3 (put-expression-callees t) (put-expression-at t) put-expression.Post
+put-expression-same-length-3 t c = long-on _ (c .before .before .put-cell2 .ensures) ∙ long-on _ (c .before .before .before .before .before .before .before .before .before .before .before .before .expression-word .ensures)
+
+put-expression-returns-4 : (t : ℕ) → put-expression-lts.Need-returns-4 (put-expression-callees t) (put-expression-at t) put-expression.Post
+put-expression-returns-4 t c = expression-more _ _ _ _ (c .before .before .before .before .before .before .before .before .before .before .before .before .before .before .before .if1 .left) (c .before .before .before .before .before .before .before .before .before .before .before .before .before .before .cell-of .ensures) (cell-next _ _ _ _ (c .before .before .before .before .before .before .before .before .before .before .before .before .expression-word .ensures) (c .before .before .before .before .before .before .before .before .g .given .1) (c .before .before .before .before .before .before .before .before .before .before .before .before .before .before .before .before .before .before .pre .1 .1 .small) (expression-word-some _) (c .before .before .before .before .before .before .cell-done .ensures) _ (operands-number _ _ _ _ (omega (arith, c .before .before .before .before .if3 .taken)) (c .before .before .put-cell2 .ensures)))
+
+put-expression-sub-put-expression : (t : ℕ) → put-expression-lts.Need-sub-put-expression (put-expression-callees t) (put-expression-at t) put-expression.Post
+put-expression-sub-put-expression t c = omega (arith, c .before .before .before .before .before .before .before .before .before .before .before .if1 .left)
+
+put-expression-put-expression-requires : (t : ℕ) → put-expression-lts.Need-put-expression-requires (put-expression-callees t) (put-expression-at t) put-expression.Post
+put-expression-put-expression-requires t c κs = (omega (arith, c .before .before .before .before .before .before .before .before .before .before .before .before .before .before .before .pre .0, c .before .before .before .before .before .before .before .before .before .before .before .before .if1 .left), (c .before .before .before .before .before .before .before .before .before .before .before .before .before .before .before .pre .1 .0, cell-room _ _ _ _ (c .before .before .before .before .before .before .before .before .before .expression-word .ensures) (c .before .before .before .before .before .g .given .1) (c .before .before .before .before .before .before .before .before .before .before .before .before .before .before .before .pre .1 .1 .small) (expression-word-some _) (c .before .before .before .cell-done .ensures) (c .before .before .before .before .before .before .before .before .before .before .before .before .before .before .before .pre .1 .1 .long)))
+
+put-expression-enum-known-h : (t : ℕ) → put-expression-lts.Need-enum-known-h (put-expression-callees t) (put-expression-at t) put-expression.Post
+put-expression-enum-known-h t c = search needs
+
+put-expression-enum-told-2 : (t : ℕ) → put-expression-lts.Need-enum-told-2 (put-expression-callees t) (put-expression-at t) put-expression.Post
+put-expression-enum-told-2 t c = search needs
+
+put-expression-same-length-4 : (t : ℕ) → put-expression-lts.Need-same-length-4 (put-expression-callees t) (put-expression-at t) put-expression.Post
+put-expression-same-length-4 t c = long-on _ (c .before .before .before .before .put-expression .ensures) ∙ long-on _ (c .before .before .before .before .before .before .before .before .before .before .before .before .before .before .expression-word .ensures)
+
+put-expression-returns-5 : (t : ℕ) → put-expression-lts.Need-returns-5 (put-expression-callees t) (put-expression-at t) put-expression.Post
+put-expression-returns-5 t c = expression-more _ _ _ _ (c .before .before .before .before .before .before .before .before .before .before .before .before .before .before .before .before .before .if1 .left) (c .before .before .before .before .before .before .before .before .before .before .before .before .before .before .before .before .cell-of .ensures) (cell-next _ _ _ _ (c .before .before .before .before .before .before .before .before .before .before .before .before .before .before .expression-word .ensures) (c .before .before .before .before .before .before .before .before .before .before .g .given .1) (c .before .before .before .before .before .before .before .before .before .before .before .before .before .before .before .before .before .before .before .before .pre .1 .1 .small) (expression-word-some _) (c .before .before .before .before .before .before .before .before .cell-done .ensures) _ (operands-two _ _ _ _ (c .before .before .before .before .before .before .before .if2 .left) (c .before .before .before .before .before .before .if3 .left) (full-then _ _ _ (c .before .before .before .before .put-expression .ensures) (c .enum-told2 .given .1))))
+
+put-expression-sub-put-expression-2 : (t : ℕ) → put-expression-lts.Need-sub-put-expression-2 (put-expression-callees t) (put-expression-at t) put-expression.Post
+put-expression-sub-put-expression-2 t c = omega (arith, c .before .before .before .before .before .before .before .before .before .before .before .before .before .before .before .before .before .before .if1 .left)
+
+put-expression-put-expression-requires-2 : (t : ℕ) → put-expression-lts.Need-put-expression-requires-2 (put-expression-callees t) (put-expression-at t) put-expression.Post
+put-expression-put-expression-requires-2 t c κs = (omega (arith, c .before .before .before .before .before .before .before .before .before .before .before .before .before .before .before .before .before .before .before .before .before .before .pre .0, c .before .before .before .before .before .before .before .before .before .before .before .before .before .before .before .before .before .before .before .if1 .left), (c .before .before .before .before .before .before .before .before .before .before .before .before .before .before .before .before .before .before .before .before .before .before .pre .1 .0, room-on _ (omega (arith, c .before .before .before .before .before .before .before .before .before .before .before .before .before .before .before .before .before .before .before .before .before .before .pre .1 .1 .long, long-on _ (c .before .before .before .before .before .before .before .before .before .before .before .before .before .before .before .before .expression-word .ensures))) (c .before .before .before .before .before .before .put-expression .ensures) (c .before .before .h .given .1)))
+
+put-expression-same-length-5 : (t : ℕ) → put-expression-lts.Need-same-length-5 (put-expression-callees t) (put-expression-at t) put-expression.Post
+put-expression-same-length-5 t c = long-on _ (c .before .before .put-expression2 .ensures) ∙ long-on _ (c .before .before .before .before .before .before .before .before .before .put-expression .ensures) ∙ long-on _ (c .before .before .before .before .before .before .before .before .before .before .before .before .before .before .before .before .before .before .before .expression-word .ensures)
+
+put-expression-returns-6 : (t : ℕ) → put-expression-lts.Need-returns-6 (put-expression-callees t) (put-expression-at t) put-expression.Post
+put-expression-returns-6 t c = expression-more _ _ _ _ (c .before .before .before .before .before .before .before .before .before .before .before .before .before .before .before .before .before .before .before .before .before .before .if1 .left) (c .before .before .before .before .before .before .before .before .before .before .before .before .before .before .before .before .before .before .before .before .before .cell-of .ensures) (cell-next _ _ _ _ (c .before .before .before .before .before .before .before .before .before .before .before .before .before .before .before .before .before .before .before .expression-word .ensures) (c .before .before .before .before .before .before .before .before .before .before .before .before .before .before .before .g .given .1) (c .before .before .before .before .before .before .before .before .before .before .before .before .before .before .before .before .before .before .before .before .before .before .before .before .before .pre .1 .1 .small) (expression-word-some _) (c .before .before .before .before .before .before .before .before .before .before .before .before .before .cell-done .ensures) _ (operands-two _ _ _ _ (c .before .before .before .before .before .before .before .before .before .before .before .before .if2 .left) (c .before .before .before .before .before .before .before .before .before .before .before .if3 .left) (on-then _ _ _ _ (c .before .before .before .before .before .before .before .before .before .put-expression .ensures) (c .before .before .before .before .before .h .given .1) (c .before .before .put-expression2 .ensures))))
+
+pub +put-expression-spec : {M : Type 1} → statement M
++put-expression-spec = close μ-put-expression λ t. put-expression-lts.spec (put-expression-callees t)
+    (put-expression-at t)
+    put-expression.Post
+    (put-expression-returns t)
+    (put-expression-cell-of-requires t)
+    (put-expression-expression-word-requires t)
+    (put-expression-enum-known-g t)
+    (put-expression-enum-told t)
+    (put-expression-same-length t)
+    (put-expression-returns-2 t)
+    (put-expression-cell-done-requires t)
+    (put-expression-put-cell-requires t)
+    (put-expression-same-length-2 t)
+    (put-expression-returns-3 t)
+    (put-expression-put-cell-requires-2 t)
+    (put-expression-same-length-3 t)
+    (put-expression-returns-4 t)
+    (put-expression-sub-put-expression t)
+    (put-expression-put-expression-requires t)
+    (put-expression-enum-known-h t)
+    (put-expression-enum-told-2 t)
+    (put-expression-same-length-4 t)
+    (put-expression-returns-5 t)
+    (put-expression-sub-put-expression-2 t)
+    (put-expression-put-expression-requires-2 t)
+    (put-expression-same-length-5 t)
+    (put-expression-returns-6 t)

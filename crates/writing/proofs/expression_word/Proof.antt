@@ -1,0 +1,81 @@
+use Rattle.writing.specs.Written.{expressionWord}
+use borrow.Author.Tests.{ne-eqb}
+use borrow.Author.Needs.{needs}
+use Rattle.writing.proofs.expression_word.Statement.{statement}
+use Rattle.writing.proofs.expression_word.Tie as tie
+use Rattle.writing.proofs.expression_word.Reads as reads
+use Rattle.writing.proofs.expression_word.Lts as lts
+use Rattle.writing.proofs.put_letters.Reads as put-letters-reads
+
+slice-aggregate-put-letters : tie.Need-slice-aggregate-put-letters
+slice-aggregate-put-letters c = search needs
+
+put-letters-requires : tie.Need-put-letters-requires
+put-letters-requires c κs = search needs
+
+slice-aggregate-put-letters-2 : tie.Need-slice-aggregate-put-letters-2
+slice-aggregate-put-letters-2 c = search needs
+
+put-letters-requires-2 : tie.Need-put-letters-requires-2
+put-letters-requires-2 c κs = search needs
+
+slice-aggregate-put-letters-3 : tie.Need-slice-aggregate-put-letters-3
+slice-aggregate-put-letters-3 c = search needs
+
+put-letters-requires-3 : tie.Need-put-letters-requires-3
+put-letters-requires-3 c κs = search needs
+
+slice-aggregate-put-letters-4 : tie.Need-slice-aggregate-put-letters-4
+slice-aggregate-put-letters-4 c = search needs
+
+put-letters-requires-4 : tie.Need-put-letters-requires-4
+put-letters-requires-4 c κs = search needs
+
+same-length : tie.Need-same-length
+same-length c = search needs
+
+returns : tie.Need-returns
+unfolding expressionWord
+returns c = rw (c .before .before .before .before .before .match .keys1) (c .before .before .put-letters .ensures)
+
+same-length-2 : tie.Need-same-length-2
+same-length-2 c = search needs
+
+returns-2 : tie.Need-returns-2
+unfolding expressionWord
+returns-2 c = rw (c .before .before .before .before .before .match .keys2) (c .before .before .put-letters2 .ensures)
+
+same-length-3 : tie.Need-same-length-3
+same-length-3 c = search needs
+
+returns-3 : tie.Need-returns-3
+unfolding expressionWord
+returns-3 c = rw (c .before .before .before .before .before .match .keys3) (c .before .before .put-letters3 .ensures)
+
+same-length-4 : tie.Need-same-length-4
+same-length-4 c = search needs
+
+returns-4 : tie.Need-returns-4
+unfolding expressionWord
+returns-4 c = rw (ne-eqb _ _ (c .before .before .before .before .before .match .rest .0 .0 .1), ne-eqb _ _ (c .before .before .before .before .before .match .rest .0 .1), ne-eqb _ _ (c .before .before .before .before .before .match .rest .1)) (c .before .before .put-letters4 .ensures)
+
+pub expression-word-spec : {M : Type 1} → statement M
+expression-word-spec =
+    tie.close
+    (tie.spec
+    slice-aggregate-put-letters
+    put-letters-requires
+    slice-aggregate-put-letters-2
+    put-letters-requires-2
+    slice-aggregate-put-letters-3
+    put-letters-requires-3
+    slice-aggregate-put-letters-4
+    put-letters-requires-4
+    same-length
+    returns
+    same-length-2
+    returns-2
+    same-length-3
+    returns-3
+    same-length-4
+    returns-4)

@@ -1,0 +1,79 @@
+use lib.ListN.{getD}
+use Rattle.writing.proofs.Putting.{long-on}
+use Rattle.writing.proofs.Whole.{line-one-short, whole-text, no-text}
+use mathlib.Core.Path.{_≡_, _∙_}
+use native.Mathlib.Omega.{arith}
+use borrow.Author.Needs.{needs}
+use Rattle.writing.proofs.put_sheet.Statement.{statement}
+use Rattle.writing.proofs.put_sheet.Tie as tie
+use Rattle.writing.proofs.put_sheet.Reads as reads
+use Rattle.writing.proofs.put_sheet.Lts as lts
+use Rattle.texts.proofs.put_line.Reads as put-line-reads
+use Rattle.writing.proofs.put_defs.Reads as put-defs-reads
+
+shared-slice-read-k : tie.Need-shared-slice-read-k
+shared-slice-read-k c = search needs
+
+shared-slice-read-n : tie.Need-shared-slice-read-n
+shared-slice-read-n c = search needs
+
+slice-aggregate-put-line : tie.Need-slice-aggregate-put-line
+slice-aggregate-put-line c = search needs
+
+slice-aggregate-put-line-2 : tie.Need-slice-aggregate-put-line-2
+slice-aggregate-put-line-2 c = search needs
+
+put-line-requires : tie.Need-put-line-requires
+put-line-requires c κs = search needs
+
+put-defs-requires : tie.Need-put-defs-requires
+put-defs-requires c κs = let w = c .before .before .before .put-line .ensures in
+    let l = line-one-short (getD (c .before .before .before .before .before .before .before .before .before .before .before .args .t .now) 0 0) (getD (c .before .before .before .before .before .before .before .before .before .before .before .args .t .now) 1 0) in (
+      c .before .before .before .before .before .before .before .before .before .before .before .pre .0,
+      record {
+        long = omega (arith, w .long, c .before .before .before .before .before .before .before .before .before .before .before .pre .1);
+        small = record {
+          short = omega (arith, w .end, l);
+          nodes = omega arith;
+          branches = omega arith;
+          defs = omega arith;
+          listed = omega arith;
+          cells = omega arith;
+        };
+      },
+    )
+
+enum-known-g : tie.Need-enum-known-g
+enum-known-g c = search needs
+
+enum-told : tie.Need-enum-told
+enum-told c = search needs
+
+same-length : tie.Need-same-length
+same-length c = long-on _ (c .before .before .before .before .before .put-defs .ensures) ∙ c .before .before .before .before .before .before .before .before .before .put-line .ensures .long
+
+returns : tie.Need-returns
+returns c = whole-text (c .before .before .before .before .before .before .before .before .before .before .before .before .before .before .before .before .before .args .t .now) (c .before .before .before .before .before .before .before .before .before .put-line .ensures) (c .before .before .before .before .before .put-defs .ensures) _ (c .before .g .given .1)
+
+same-length-2 : tie.Need-same-length-2
+same-length-2 c = long-on _ (c .before .before .before .before .put-defs .ensures) ∙ c .before .before .before .before .before .before .before .before .put-line .ensures .long
+
+returns-2 : tie.Need-returns-2
+returns-2 c = no-text (c .before .before .before .before .before .before .before .before .before .before .before .before .before .before .before .before .args .t .now) (c .before .before .before .before .before .before .before .before .put-line .ensures) (c .before .before .before .before .put-defs .ensures) (c .enum-told .given .1)
+
+pub put-sheet-spec : {M : Type 1} → statement M
+put-sheet-spec =
+    tie.close
+    (tie.spec
+    shared-slice-read-k
+    shared-slice-read-n
+    slice-aggregate-put-line
+    slice-aggregate-put-line-2
+    put-line-requires
+    put-defs-requires
+    enum-known-g
+    enum-told
+    same-length
+    returns
+    same-length-2
+    returns-2)

@@ -1,0 +1,20 @@
+use Rattle.writing.specs.Putting.{stood}
+use borrow.Author.Tests.{lt-ltb, le-ltb}
+use native.Mathlib.Omega.{arith}
+use Rattle.writing.proofs.stand.Statement.{statement}
+use Rattle.writing.proofs.stand.Tie as tie
+use Rattle.writing.proofs.stand.Reads as reads
+use Rattle.writing.proofs.stand.Lts as lts
+
+returns : tie.Need-returns
+unfolding stood
+returns c = let e = c .before .args .end in
+    rw (lt-ltb 32768 e (omega arith))
+
+returns-2 : tie.Need-returns-2
+unfolding stood
+returns-2 c = let e = c .before .args .end in
+    rw (le-ltb 32768 e (omega arith))
+
+pub stand-spec : {M : Type 1} → statement M
+stand-spec = tie.close (tie.spec returns returns-2)

@@ -1,0 +1,96 @@
+use borrow.Author.Needs.{needs}
+use Rattle.loading.proofs.clear_rest.Statement.{statement}
+use Rattle.loading.proofs.clear_rest.Tie as tie
+
+slice-read-defs : tie.Need-slice-read-defs
+slice-read-defs c = search needs
+
+slice-read-nodes : tie.Need-slice-read-nodes
+slice-read-nodes c = search needs
+
+slice-read-branches : tie.Need-slice-read-branches
+slice-read-branches c = search needs
+
+slice-read-listed : tie.Need-slice-read-listed
+slice-read-listed c = search needs
+
+slice-read-cells : tie.Need-slice-read-cells
+slice-read-cells c = search needs
+
+add-clear-part : tie.Need-add-clear-part
+add-clear-part c = ?
+
+clear-part-requires : tie.Need-clear-part-requires
+clear-part-requires c κs = ?
+
+add-clear-part-2 : tie.Need-add-clear-part-2
+add-clear-part-2 c = ?
+
+clear-part-requires-2 : tie.Need-clear-part-requires-2
+clear-part-requires-2 c κs = ?
+
+mul-clear-part : tie.Need-mul-clear-part
+mul-clear-part c = ?
+
+add-clear-part-3 : tie.Need-add-clear-part-3
+add-clear-part-3 c = ?
+
+clear-part-requires-3 : tie.Need-clear-part-requires-3
+clear-part-requires-3 c κs = ?
+
+mul-clear-part-2 : tie.Need-mul-clear-part-2
+mul-clear-part-2 c = ?
+
+add-clear-part-4 : tie.Need-add-clear-part-4
+add-clear-part-4 c = ?
+
+clear-part-requires-4 : tie.Need-clear-part-requires-4
+clear-part-requires-4 c κs = ?
+
+mul-clear-part-3 : tie.Need-mul-clear-part-3
+mul-clear-part-3 c = ?
+
+add-clear-part-5 : tie.Need-add-clear-part-5
+add-clear-part-5 c = ?
+
+clear-part-requires-5 : tie.Need-clear-part-requires-5
+clear-part-requires-5 c κs = ?
+
+add-clear-part-6 : tie.Need-add-clear-part-6
+add-clear-part-6 c = search needs
+
+clear-part-requires-6 : tie.Need-clear-part-requires-6
+clear-part-requires-6 c κs = search needs
+
+same-length : tie.Need-same-length
+same-length c = search needs
+
+returns : tie.Need-returns
+returns c = ?
+
+pub clear-rest-spec : {M : Type 1} → statement M
+clear-rest-spec =
+    tie.close
+    (tie.spec
+    slice-read-defs
+    slice-read-nodes
+    slice-read-branches
+    slice-read-listed
+    slice-read-cells
+    add-clear-part
+    clear-part-requires
+    add-clear-part-2
+    clear-part-requires-2
+    mul-clear-part
+    add-clear-part-3
+    clear-part-requires-3
+    mul-clear-part-2
+    add-clear-part-4
+    clear-part-requires-4
+    mul-clear-part-3
+    add-clear-part-5
+    clear-part-requires-5
+    add-clear-part-6
+    clear-part-requires-6
+    same-length
+    returns)

@@ -1,0 +1,18 @@
+use borrow.Author.Needs.{needs}
+use Rattle.loading.proofs.refuse.Statement.{statement}
+use Rattle.loading.proofs.refuse.Tie as tie
+
+clear-requires : tie.Need-clear-requires
+clear-requires c κs = search needs
+
+declined-requires : tie.Need-declined-requires
+declined-requires c κs = search needs
+
+same-length : tie.Need-same-length
+same-length c = search needs
+
+returns : tie.Need-returns
+returns c = ?
+
+pub refuse-spec : {M : Type 1} → statement M
+refuse-spec = tie.close (tie.spec clear-requires declined-requires same-length returns)

@@ -9,6 +9,8 @@ use lib.Seq.{ext-getD, length-take-le, getD-take, getD-drop, take-take, take-add
 use Rattle.tables.specs.Entries.{NodeEntry, BranchEntry, DefEntry, Entries, firstOf, nodeIn, branchIn, defIn, listedIn, cellIn, held, people, tableLong}
 use Rattle.tables.proofs.Laws.{firstOf-length, firstOf-getD}
 use Rattle.reader.specs.Promises.{Sizes}
+use Rattle.exits.specs.Made.{filled}
+use Rattle.exits.proofs.Buffer.{filled-none}
 use Rattle.loading.specs.Table.{padded, flat, nodeCells, branchCells, defCells, headerCells, sectionCells, tableOf}
 
 -- ---- numbers, and zeros past them
@@ -250,8 +252,8 @@ clear-behind u v Z xs start from to e m l h s =
     let long = length-take-le to u h in
     let fits : from ≤ length (take to u) = omega (arith, long) in
     let a : take from v ≡ p ++ xs =
-            ap (λ zs. take from zs) e ∙ take-append-le from (take to u) Z fits ∙ take-take from to u l ∙ ap (λ k. take k u) m
-            ∙ take-add start (length xs) u ∙ ap (λ zs. p ++ zs) (sym s) in
+    ap (λ zs. take from zs) e ∙ take-append-le from (take to u) Z fits ∙ take-take from to u l ∙ ap (λ k. take k u) m
+    ∙ take-add start (length xs) u ∙ ap (λ zs. p ++ zs) (sym s) in
     let b : drop to v ≡ Z = ap (λ zs. drop to zs) e ∙ drop-at (take to u) Z to long in
     let r = replicate {A = ℕ} (to - from) 0 in
     let k : to - from ≡ to - start - length xs = omega (arith, m) in
@@ -263,6 +265,16 @@ clear-behind u v Z xs start from to e m l h s =
 -- the cells from one place to another become zero
 abbrev zeros : ℕ → ℕ → List ℕ → List ℕ
 zeros from to t = take from t ++ replicate (to - from) 0 ++ drop to t
+
+-- as a part is put back that was lent and cleared
+pub zeros-put : (t : List ℕ) (from to : ℕ) → from ≤ to → to ≤ length t → (ys : List ℕ) → ys ≡ filled (length (take (to - from) (drop from t))) []
+    → take from t ++ (ys ++ drop (to - from) (drop from t)) ≡ zeros from to t
+zeros-put t from to h k ys e =
+    let l : to - from ≤ length (drop from t) = rw length-drop (omega arith) in
+    let m : from + (to - from) ≡ to = omega arith in
+    ap₂ (λ xs zs. take from t ++ (xs ++ zs)) (e ∙ sym (filled-none (length (take (to - from) (drop from t)))) ∙ ap (λ i. replicate i 0) (length-take-le (to - from) (drop from t) l))
+    (drop-drop (to - from) from t ∙ ap (λ i. drop i t) m)
+    ∙ sym (append-assoc (take from t) (replicate (to - from) 0) (drop to t))
 
 -- how much is held of each section, by the header
 pub record Counted (t : List ℕ) : Type 0 where
@@ -310,18 +322,18 @@ module _ (u : List ℕ) (long : tableLong ≤ length u) (z : Sizes (people u) (h
       let l₃ = flat-long branches-section (E .branches) in
       let l₄ = flat-long defs-section (E .defs) in
       let e₁ = w₁ ∙ clear-behind u u [] (E .cells) 19304 (19304 + getD u 5 0) (length u) (sym (append-nil (take (length u) u) ∙ take-length u))
-              (omega (arith, firstOf-length (cellIn u) (getD u 5 0))) (omega (arith, c .cells)) (omega arith) (numbers-part 19304 (getD u 5 0) (omega (arith, c .cells))) in
+      (omega (arith, firstOf-length (cellIn u) (getD u 5 0))) (omega (arith, c .cells)) (omega arith) (numbers-part 19304 (getD u 5 0) (omega (arith, c .cells))) in
       let e₂ = w₂ ∙ clear-behind u v₁ _ (E .listed) 10344 (10344 + getD u 4 0) 19304 e₁
-              (omega (arith, firstOf-length (listedIn u) (getD u 4 0))) (omega (arith, c .listed)) (omega arith) (numbers-part 10344 (getD u 4 0) (omega (arith, c .listed))) in
+      (omega (arith, firstOf-length (listedIn u) (getD u 4 0))) (omega (arith, c .listed)) (omega arith) (numbers-part 10344 (getD u 4 0) (omega (arith, c .listed))) in
       let e₃ = w₃ ∙ clear-behind u v₂ _ ds 10248 (10248 + 3 * getD u 1 0) 10344 e₂
-              (omega (arith, l₄, firstOf-length (defIn u) (getD u 1 0))) (omega (arith, c .defs)) (omega arith) (part-is defs-section u (getD u 1 0) (omega (arith, c .defs))) in
+      (omega (arith, l₄, firstOf-length (defIn u) (getD u 1 0))) (omega (arith, c .defs)) (omega arith) (part-is defs-section u (getD u 1 0) (omega (arith, c .defs))) in
       let e₄ = w₄ ∙ clear-behind u v₃ _ bs 2056 (2056 + 8 * getD u 3 0) 10248 e₃
-              (omega (arith, l₃, firstOf-length (branchIn u) (getD u 3 0))) (omega (arith, c .branches)) (omega arith) (part-is branches-section u (getD u 3 0) (omega (arith, c .branches))) in
+      (omega (arith, l₃, firstOf-length (branchIn u) (getD u 3 0))) (omega (arith, c .branches)) (omega arith) (part-is branches-section u (getD u 3 0) (omega (arith, c .branches))) in
       let e₅ = w₅ ∙ clear-behind u v₄ _ xs 8 (8 + 4 * getD u 2 0) 2056 e₄
-              (omega (arith, l₂, firstOf-length (nodeIn u) (getD u 2 0))) (omega (arith, c .nodes)) (omega arith) (part-is nodes-section u (getD u 2 0) (omega (arith, c .nodes))) in
+      (omega (arith, l₂, firstOf-length (nodeIn u) (getD u 2 0))) (omega (arith, c .nodes)) (omega arith) (part-is nodes-section u (getD u 2 0) (omega (arith, c .nodes))) in
       let e₆ = w₆ ∙ clear-behind u v₅ _ (headerCells (people u) E) 0 6 8 e₅
-              (omega (arith, header-long (people u) E)) (omega arith) (omega arith)
-              (subst (λ ys. ys ≡ take (length ys) (drop 0 u)) (header-is u) (numbers-part 0 6 (omega arith))) in
+      (omega (arith, header-long (people u) E)) (omega arith) (omega arith)
+      (subst (λ ys. ys ≡ take (length ys) (drop 0 u)) (header-is u) (numbers-part 0 6 (omega arith))) in
       e₆ ∙ sym (table-is (people u) E z (length u) long)
     where
       numbers-part : (start n : ℕ) → start + n ≤ length u → firstOf (λ i. getD u (start + i) 0) n ≡ take (length (firstOf (λ i. getD u (start + i) 0) n)) (drop start u)
@@ -335,9 +347,10 @@ opened : (t rest xs : List ℕ) (start size : ℕ) → drop start t ≡ padded s
     → (take (length xs) (drop start t) ≡ xs) × (drop (start + size) t ≡ rest)
 unfolding padded
 opened t rest xs start size e h =
-    let z = replicate {A = ℕ} (size - length xs) 0 in
-    (ap (λ ys. take (length xs) ys) (e ∙ append-assoc xs z rest) ∙ take-at xs (z ++ rest) (length xs) refl,
-      sym (drop-drop size start t) ∙ ap (λ ys. drop size ys) e ∙ drop-at (padded size xs) rest size (padded-long size xs h))
+    let z = replicate {A = ℕ} (size - length xs) 0 in (
+      ap (λ ys. take (length xs) ys) (e ∙ append-assoc xs z rest) ∙ take-at xs (z ++ rest) (length xs) refl,
+      sym (drop-drop size start t) ∙ ap (λ ys. drop size ys) e ∙ drop-at (padded size xs) rest size (padded-long size xs h),
+    )
 
 -- so it gives back what it holds
 module _ (K : ℕ) (E : Entries) (z : Sizes K E) (n : ℕ) (h : tableLong ≤ n) where

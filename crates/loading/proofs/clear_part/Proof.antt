@@ -1,3 +1,4 @@
+use Rattle.loading.proofs.Table.{zeros-put}
 use borrow.Author.Needs.{needs}
 use Rattle.loading.proofs.clear_part.Statement.{statement}
 use Rattle.loading.proofs.clear_part.Tie as tie
@@ -21,7 +22,7 @@ same-length : tie.Need-same-length
 same-length c = search needs
 
 returns : tie.Need-returns
-returns c = ?
+returns c = zeros-put (c .before .before .before .before .before .args .t .now) (c .before .before .before .before .before .args .from) (c .before .before .before .before .before .args .to) (c .before .before .before .before .before .pre .0) (c .before .before .before .before .before .pre .1) _ (c .before .before .clear .ensures)
 
 pub clear-part-spec : {M : Type 1} → statement M
 clear-part-spec =

@@ -1,3 +1,6 @@
+use mathlib.Core.Path.{sym, _∙_}
+use lib.ListN.{length}
+use Rattle.exits.proofs.Buffer.{filled-none}
 use borrow.Author.Needs.{needs}
 use Rattle.loading.proofs.refuse.Statement.{statement}
 use Rattle.loading.proofs.refuse.Tie as tie
@@ -12,7 +15,7 @@ same-length : tie.Need-same-length
 same-length c = search needs
 
 returns : tie.Need-returns
-returns c = ?
+returns c = (c .declined .ensures, c .before .before .before .clear .ensures ∙ sym (filled-none (length (c .before .before .before .before .before .before .args .t .now))))
 
 pub refuse-spec : {M : Type 1} → statement M
 refuse-spec = tie.close (tie.spec clear-requires declined-requires same-length returns)

@@ -6,7 +6,7 @@ use native.Mathlib.Omega.{arith}
 use mathlib.Core.List.{List, [], _∷_, _++_, append-assoc, append-nil}
 use lib.ListN.{length, getD, take, drop, replicate, length-append, length-drop, length-replicate, replicate-append-replicate, List·getD-append}
 use lib.Seq.{ext-getD, length-take-le, getD-take, getD-drop, take-take, take-add, take-at, drop-at, take-append-le, take-length, drop-drop, getD-append-add}
-use Rattle.tables.specs.Entries.{NodeEntry, BranchEntry, DefEntry, Entries, firstOf, nodeIn, branchIn, defIn, listedIn, cellIn, held, people, tableLong}
+use Rattle.tables.specs.Entries.{Entries, firstOf, nodeIn, branchIn, defIn, listedIn, cellIn, held, people, tableLong}
 use Rattle.tables.proofs.Laws.{firstOf-length, firstOf-getD}
 use Rattle.reader.specs.Promises.{Sizes}
 use Rattle.exits.specs.Made.{filled}

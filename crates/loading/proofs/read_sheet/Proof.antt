@@ -39,7 +39,7 @@ same-length-3 : tie.Need-same-length-3
 same-length-3 c = search needs
 
 returns-3 : tie.Need-returns-3
-returns-3 c = gives _ _ _ _ _ _ (behind _ _ (omega arith) (omega arith) _ _ (c .before .before .before .before .before .before .before .before .before .before .sheet .ensures .0) _ _ (c .before .before .before .before .before .before .g .given .1) (c .before .before .before .before .if3 .taken)) (c .before .before .before .before .before .before .before .before .before .before .sheet .kept .1 .0) (c .before .before .refuse-at .ensures .0) (c .before .before .refuse-at .ensures .1)
+returns-3 c = gives _ _ _ _ _ _ (behind _ _ (omega arith) (omega arith) _ _ (c .before .before .before .before .before .before .before .before .before .before .sheet .ensures .0) _ _ (c .before .before .before .before .before .before .g .given .1) (omega (arith, c .before .before .before .before .if3 .taken))) (c .before .before .before .before .before .before .before .before .before .before .sheet .kept .1 .0) (c .before .before .refuse-at .ensures .0) (c .before .before .refuse-at .ensures .1)
 
 clear-rest-requires : tie.Need-clear-rest-requires
 clear-rest-requires c κs = (omega arith, sized _ _ _ (c .before .before .before .before .before .before .before .sheet .ensures .0) _ _ (c .before .before .before .g .given .1))
@@ -58,7 +58,7 @@ same-length-4 c = search needs
 
 returns-4 : tie.Need-returns-4
 unfolding replyTo cellsOf
-returns-4 c = gives _ _ _ _ _ _ (whole _ _ (omega arith) (omega arith) _ _ (c .before .before .before .before .before .before .before .before .before .before .before .sheet .ensures .0) _ _ (c .before .before .before .before .before .before .before .g .given .1) (c .before .before .before .before .before .if3 .left)) (c .before .before .before .before .before .before .before .before .before .before .before .sheet .kept .1 .0) (c .answered .ensures) (c .before .before .before .clear-rest .ensures)
+returns-4 c = gives _ _ _ _ _ _ (whole _ _ (omega arith) (omega arith) _ _ (c .before .before .before .before .before .before .before .before .before .before .before .sheet .ensures .0) _ _ (c .before .before .before .before .before .before .before .g .given .1) (omega (arith, c .before .before .before .before .before .if3 .left))) (c .before .before .before .before .before .before .before .before .before .before .before .sheet .kept .1 .0) (c .answered .ensures) (c .before .before .before .clear-rest .ensures)
 
 same-length-5 : tie.Need-same-length-5
 same-length-5 c = search needs

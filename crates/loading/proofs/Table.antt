@@ -1,16 +1,16 @@
 -- A table by its sections: what zeros behind each of them make of a table that was read, and what a table gives back. Assumes nothing.
 use mathlib.Core.Path.{_≡_, refl, sym, ap, ap₂, _∙_, subst}
-use Prim.Native.Nat.{ℕ, zero, suc, _+_, _-_, _*_, _/_, _%_, _≤_, _<_}
-use native.Mathlib.Nat.{mod-lt, div-add-mod, lt-of-mul-lt-mul-left}
+use Prim.Native.Nat.{ℕ, _+_, _-_, _*_, _≤_, _<_}
 use native.Mathlib.Omega.{arith}
-use mathlib.Core.List.{List, [], _∷_, _++_, append-assoc, append-nil}
-use lib.ListN.{length, getD, take, drop, replicate, length-append, length-drop, length-replicate, replicate-append-replicate, List·getD-append}
-use lib.Seq.{ext-getD, length-take-le, getD-take, getD-drop, take-take, take-add, take-at, drop-at, take-append-le, take-length, drop-drop, getD-append-add}
+use mathlib.Core.List.{List, [], _++_, append-assoc, append-nil}
+use lib.ListN.{length, getD, take, drop, replicate, length-append, length-drop, length-replicate, replicate-append-replicate}
+use lib.Seq.{length-take-le, getD-take, take-take, take-add, take-at, drop-at, take-append-le, take-length, drop-drop}
 use Rattle.tables.specs.Entries.{Entries, firstOf, nodeIn, branchIn, defIn, listedIn, cellIn, held, people, tableLong}
-use Rattle.tables.proofs.Laws.{firstOf-length, firstOf-getD}
+use Rattle.tables.proofs.Laws.{firstOf-length}
 use Rattle.reader.specs.Promises.{Sizes}
 use Rattle.exits.specs.Made.{filled}
 use Rattle.exits.proofs.Buffer.{filled-none}
+use Rattle.loading.proofs.Sections.{Section, flat-long, part-is, holds, nodes-section, branches-section, defs-section, numbers-part, numbers-held}
 use Rattle.loading.specs.Table.{padded, flat, nodeCells, branchCells, defCells, headerCells, sectionCells, tableOf}
 
 -- ---- numbers, and zeros past them
@@ -19,163 +19,14 @@ padded-long : (n : ℕ) (xs : List ℕ) → length xs ≤ n → length (padded n
 unfolding padded
 padded-long n xs h = omega (arith, length-append xs (replicate (n - length xs) 0), length-replicate {A = ℕ} (n - length xs) 0)
 
--- ---- a section: w numbers for each entry, from a place on
-
-record Section {A : Type 0} (numbers : A → List ℕ) (w start : ℕ) (entry : List ℕ → ℕ → A) : Type 0 where
-  some : 0 < w
-  wide : (x : A) → length (numbers x) ≡ w
-  -- an entry's numbers stand one after the other
-  told : (t : List ℕ) (i c : ℕ) → c < w → getD (numbers (entry t i)) c 0 ≡ getD t (start + (w * i + c)) 0
-  -- and it is known by them
-  known : (x y : A) → numbers x ≡ numbers y → x ≡ y
-
-module _ {A : Type 0} {numbers : A → List ℕ} {w start : ℕ} {entry : List ℕ → ℕ → A} (S : Section numbers w start entry) where
-  flat-long : (xs : List A) → length (flat numbers xs) ≡ w * length xs
-  unfolding flat
-  flat-long [] = omega arith
-  flat-long (x ∷ xs) = omega (arith, length-append (numbers x) (flat numbers xs), S .wide x, flat-long xs)
-
-  flat-at : (xs : List A) (d : A) (i c : ℕ) → i < length xs → c < w → getD (flat numbers xs) (w * i + c) 0 ≡ getD (numbers (getD xs i d)) c 0
-  unfolding flat
-  flat-at [] d i c h k = absurd (omega arith)
-  flat-at (x ∷ xs) d zero c h k =
-      let e : w * 0 + c ≡ c = omega arith in
-      let l : c < length (numbers x) = omega (arith, S .wide x) in
-      rw e (List·getD-append (numbers x) (flat numbers xs) 0 c l)
-  flat-at (x ∷ xs) d (suc i) c h k =
-      let e : w * suc i + c ≡ length (numbers x) + (w * i + c) = omega (arith, S .wide x) in
-      rw e (getD-append-add (numbers x) (flat numbers xs) (w * i + c) 0 ∙ flat-at xs d i c (omega arith) k)
-
-  flat-known : (xs ys : List A) → length xs ≡ length ys → flat numbers xs ≡ flat numbers ys → xs ≡ ys
-  unfolding flat
-  flat-known [] [] h e = refl
-  flat-known [] (y ∷ ys) h e = absurd (omega arith)
-  flat-known (x ∷ xs) [] h e = absurd (omega arith)
-  flat-known (x ∷ xs) (y ∷ ys) h e =
-      let a : numbers x ≡ numbers y = sym (take-at (numbers x) (flat numbers xs) w (S .wide x)) ∙ ap (λ zs. take w zs) e ∙ take-at (numbers y) (flat numbers ys) w (S .wide y) in
-      let b : flat numbers xs ≡ flat numbers ys = sym (drop-at (numbers x) (flat numbers xs) w (S .wide x)) ∙ ap (λ zs. drop w zs) e ∙ drop-at (numbers y) (flat numbers ys) w (S .wide y) in
-      ap₂ (λ z zs. z ∷ zs) (S .known x y a) (flat-known xs ys (omega arith) b)
-
-  cell-is : (t : List ℕ) (n j : ℕ) → j < w * n → getD (flat numbers (firstOf (entry t) n)) j 0 ≡ getD t (start + j) 0
-  cell-is t n j h =
-      let i = j / w in
-      let c = j % w in
-      let q : w * i + c ≡ j = div-add-mod j w in
-      let k : i < n = lt-of-mul-lt-mul-left w (let z : w * i < w * n = omega (arith, q) in z) in
-      let m : c < w = mod-lt j (S .some) in
-      let l : i < length (firstOf (entry t) n) = rw (firstOf-length (entry t) n) k in
-      ap (λ p. getD (flat numbers (firstOf (entry t) n)) p 0) (sym q)
-      ∙ flat-at (firstOf (entry t) n) (entry t 0) i c l m
-      ∙ ap (λ x. getD (numbers x) c 0) (firstOf-getD (entry t) n i (entry t 0) k)
-      ∙ S .told t i c m
-      ∙ ap (λ p. getD t (start + p) 0) q
-
-  -- what is held of a section is a part of the table
-  part-is : (t : List ℕ) (n : ℕ) → start + w * n ≤ length t → flat numbers (firstOf (entry t) n) ≡ take (length (flat numbers (firstOf (entry t) n))) (drop start t)
-  part-is t n h =
-      let xs = flat numbers (firstOf (entry t) n) in
-      let l : length xs ≡ w * n = flat-long (firstOf (entry t) n) ∙ ap (λ k. w * k) (firstOf-length (entry t) n) in
-      let long : length xs ≤ length (drop start t) = rw length-drop (omega (arith, l)) in
-      ext-getD 0 xs (take (length xs) (drop start t)) (sym (length-take-le (length xs) (drop start t) long))
-      (λ j k. cell-is t n j (subst (λ m. j < m) l k) ∙ sym (getD-take (length xs) (drop start t) j 0 k ∙ getD-drop start t j 0))
-
-  -- and a table with such a part holds these entries
-  holds : (t : List ℕ) (xs : List A) → start + w * length xs ≤ length t → take (length (flat numbers xs)) (drop start t) ≡ flat numbers xs → firstOf (entry t) (length xs) ≡ xs
-  holds t xs h e =
-      let ys = firstOf (entry t) (length xs) in
-      let same : length ys ≡ length xs = firstOf-length (entry t) (length xs) in
-      let l : length (flat numbers ys) ≡ length (flat numbers xs) = flat-long ys ∙ ap (λ k. w * k) same ∙ sym (flat-long xs) in
-      flat-known ys xs same (part-is t (length xs) h ∙ ap (λ k. take k (drop start t)) l ∙ e)
-
--- ---- the five sections, and the header as a sixth
-
-at-same : (t : List ℕ) (i j : ℕ) → i ≡ j → getD t i 0 ≡ getD t j 0
-at-same t i j e = ap (λ k. getD t k 0) e
-
-node-told : (t : List ℕ) (i c : ℕ) → c < 4 → getD (nodeCells (nodeIn t i)) c 0 ≡ getD t (8 + (4 * i + c)) 0
-unfolding nodeCells
-node-told t i zero h = at-same t (8 + 4 * i) (8 + (4 * i + 0)) (omega arith)
-node-told t i (suc zero) h = at-same t (9 + 4 * i) (8 + (4 * i + 1)) (omega arith)
-node-told t i (suc (suc zero)) h = at-same t (10 + 4 * i) (8 + (4 * i + 2)) (omega arith)
-node-told t i (suc (suc (suc zero))) h = at-same t (11 + 4 * i) (8 + (4 * i + 3)) (omega arith)
-node-told t i (suc (suc (suc (suc c)))) h = absurd (omega arith)
-
-nodes-section : Section nodeCells 4 8 nodeIn
-unfolding nodeCells
-nodes-section =
-    record {
-      some = omega arith;
-      wide = λ x. refl;
-      told = node-told;
-      known = λ x y e. ap (λ l. record { definition = getD l 0 0; parent = getD l 1 0; weight = getD l 2 0; count = getD l 3 0 }) e;
-    }
-
-branch-told : (t : List ℕ) (i c : ℕ) → c < 8 → getD (branchCells (branchIn t i)) c 0 ≡ getD t (2056 + (8 * i + c)) 0
-unfolding branchCells
-branch-told t i zero h = at-same t (2056 + 8 * i) (2056 + (8 * i + 0)) (omega arith)
-branch-told t i (suc zero) h = at-same t (2057 + 8 * i) (2056 + (8 * i + 1)) (omega arith)
-branch-told t i (suc (suc zero)) h = at-same t (2058 + 8 * i) (2056 + (8 * i + 2)) (omega arith)
-branch-told t i (suc (suc (suc zero))) h = at-same t (2059 + 8 * i) (2056 + (8 * i + 3)) (omega arith)
-branch-told t i (suc (suc (suc (suc zero)))) h = at-same t (2060 + 8 * i) (2056 + (8 * i + 4)) (omega arith)
-branch-told t i (suc (suc (suc (suc (suc zero))))) h = at-same t (2061 + 8 * i) (2056 + (8 * i + 5)) (omega arith)
-branch-told t i (suc (suc (suc (suc (suc (suc zero)))))) h = at-same t (2062 + 8 * i) (2056 + (8 * i + 6)) (omega arith)
-branch-told t i (suc (suc (suc (suc (suc (suc (suc zero))))))) h = at-same t (2063 + 8 * i) (2056 + (8 * i + 7)) (omega arith)
-branch-told t i (suc (suc (suc (suc (suc (suc (suc (suc c)))))))) h = absurd (omega arith)
-
-branches-section : Section branchCells 8 2056 branchIn
-unfolding branchCells
-branches-section =
-    record {
-      some = omega arith;
-      wide = λ x. refl;
-      told = branch-told;
-      known = λ x y e. ap (λ l. record { node = getD l 0 0; signers = getD l 1 0; opens = getD l 2 0; kind = getD l 3 0; arg = getD l 4 0; first = getD l 5 0; count = getD l 6 0; cond = getD l 7 0 }) e;
-    }
-
-def-told : (t : List ℕ) (i c : ℕ) → c < 3 → getD (defCells (defIn t i)) c 0 ≡ getD t (10248 + (3 * i + c)) 0
-unfolding defCells
-def-told t i zero h = at-same t (10248 + 3 * i) (10248 + (3 * i + 0)) (omega arith)
-def-told t i (suc zero) h = at-same t (10249 + 3 * i) (10248 + (3 * i + 1)) (omega arith)
-def-told t i (suc (suc zero)) h = at-same t (10250 + 3 * i) (10248 + (3 * i + 2)) (omega arith)
-def-told t i (suc (suc (suc c))) h = absurd (omega arith)
-
-defs-section : Section defCells 3 10248 defIn
-unfolding defCells
-defs-section =
-    record {
-      some = omega arith;
-      wide = λ x. refl;
-      told = def-told;
-      known = λ x y e. ap (λ l. record { root = getD l 0 0; first = getD l 1 0; secrets = getD l 2 0 }) e;
-    }
-
--- numbers by themselves
-abbrev single : ℕ → List ℕ
-single x = x ∷ []
-
-flat-single : (xs : List ℕ) → flat single xs ≡ xs
-unfolding flat
-flat-single [] = refl
-flat-single (x ∷ xs) = ap (λ ys. x ∷ ys) (flat-single xs)
-
-single-section : (start : ℕ) → Section single 1 start (λ t i. getD t (start + i) 0)
-single-section start =
-    record {
-      some = omega arith;
-      wide = λ x. refl;
-      told = told;
-      known = λ x y e. ap (λ l. getD l 0 0) e;
-    }
-  where
-    told : (t : List ℕ) (i c : ℕ) → c < 1 → getD (single (getD t (start + i) 0)) c 0 ≡ getD t (start + (1 * i + c)) 0
-    told t i zero h = at-same t (start + i) (start + (1 * i + 0)) (omega arith)
-    told t i (suc c) h = absurd (omega arith)
-
 -- ---- a table of n cells, section after section; the last one goes on to the table's end
 
+abbrev behindHeader : ℕ → Entries → List ℕ
+behindHeader n E =
+    padded 2048 (flat nodeCells (E .nodes)) ++ (padded 8192 (flat branchCells (E .branches)) ++ (padded 96 (flat defCells (E .defs)) ++ (padded 8960 (E .listed) ++ (padded (n - 19304) (E .cells) ++ []))))
+
 abbrev laid : ℕ → ℕ → Entries → List ℕ
-laid n K E =
-    padded 8 (headerCells K E) ++ (padded 2048 (flat nodeCells (E .nodes)) ++ (padded 8192 (flat branchCells (E .branches)) ++ (padded 96 (flat defCells (E .defs)) ++ (padded 8960 (E .listed) ++ (padded (n - 19304) (E .cells) ++ [])))))
+laid n K E = padded 8 (headerCells K E) ++ behindHeader n E
 
 padded-on : (m k : ℕ) (xs : List ℕ) → length xs ≤ m → padded m xs ++ replicate k 0 ≡ padded (m + k) xs ++ []
 unfolding padded
@@ -242,29 +93,45 @@ module _ (K : ℕ) (E : Entries) (z : Sizes K E) where
       ∙ append-six a b c d e f (replicate (n - 52072) 0)
       ∙ ap (λ zs. a ++ (b ++ (c ++ (d ++ (e ++ zs))))) (padded-on 32768 (n - 52072) (E .cells) (z .cells) ∙ ap (λ i. padded i (E .cells) ++ []) k)
 
--- ---- zeros behind a section, with those behind it as they should be
-
-pub clear-behind : (u v Z xs : List ℕ) (start from to : ℕ) → v ≡ take to u ++ Z → from ≡ start + length xs → from ≤ to → to ≤ length u
-    → xs ≡ take (length xs) (drop start u) → take from v ++ replicate (to - from) 0 ++ drop to v ≡ take start u ++ (padded (to - start) xs ++ Z)
-unfolding padded
-clear-behind u v Z xs start from to e m l h s =
-    let p = take start u in
-    let long = length-take-le to u h in
-    let fits : from ≤ length (take to u) = omega (arith, long) in
-    let a : take from v ≡ p ++ xs =
-    ap (λ zs. take from zs) e ∙ take-append-le from (take to u) Z fits ∙ take-take from to u l ∙ ap (λ k. take k u) m
-    ∙ take-add start (length xs) u ∙ ap (λ zs. p ++ zs) (sym s) in
-    let b : drop to v ≡ Z = ap (λ zs. drop to zs) e ∙ drop-at (take to u) Z to long in
-    let r = replicate {A = ℕ} (to - from) 0 in
-    let k : to - from ≡ to - start - length xs = omega (arith, m) in
-    ap₂ (λ ys zs. ys ++ r ++ zs) a b
-    ∙ ap (λ ys. ys ++ Z) (append-assoc p xs r)
-    ∙ append-assoc p (xs ++ r) Z
-    ∙ ap (λ i. p ++ (xs ++ replicate i 0 ++ Z)) k
+-- ---- zeros behind what is held of a section
 
 -- the cells from one place to another become zero
 abbrev zeros : ℕ → ℕ → List ℕ → List ℕ
 zeros from to t = take from t ++ replicate (to - from) 0 ++ drop to t
+
+-- v is the table u up to a place, with Z from there on; zeros from the end of a part xs of u up to the place leave xs before them
+zeros-behind : (u v Z xs : List ℕ) (start from to : ℕ) → v ≡ take to u ++ Z → from ≡ start + length xs → from ≤ to → to ≤ length u
+    → xs ≡ take (length xs) (drop start u) → zeros from to v ≡ take start u ++ (padded (to - start) xs ++ Z)
+unfolding padded
+zeros-behind u v Z xs start from to e m l h s =
+    let p = take start u in
+    let r = replicate {A = ℕ} (to - from) 0 in
+    let long = length-take-le to u h in
+    let fits : from ≤ length (take to u) = omega (arith, long) in
+    let a : take from v ≡ take from u = ap (λ zs. take from zs) e ∙ take-append-le from (take to u) Z fits ∙ take-take from to u l in
+    let b : take from u ≡ p ++ xs = ap (λ k. take k u) m ∙ take-add start (length xs) u ∙ ap (λ zs. p ++ zs) (sym s) in
+    let c : drop to v ≡ Z = ap (λ zs. drop to zs) e ∙ drop-at (take to u) Z to long in
+    let k : to - from ≡ to - start - length xs = omega (arith, m) in
+    ap₂ (λ ys zs. ys ++ r ++ zs) (a ∙ b) c
+    ∙ ap (λ ys. ys ++ Z) (append-assoc p xs r)
+    ∙ append-assoc p (xs ++ r) Z
+    ∙ ap (λ i. p ++ (xs ++ replicate i 0 ++ Z)) k
+
+-- the part is what n entries of a section have
+section-zeros : {A : Type 0} {numbers : A → List ℕ} {w start : ℕ} {entry : List ℕ → ℕ → A} → Section numbers w start entry
+    → (u v Z : List ℕ) (n to : ℕ) → v ≡ take to u ++ Z → start + w * n ≤ to → to ≤ length u
+    → zeros (start + w * n) to v ≡ take start u ++ (padded (to - start) (flat numbers (firstOf (entry u) n)) ++ Z)
+section-zeros {numbers = numbers} {w = w} {start = start} {entry = entry} S u v Z n to e h k =
+    let xs = flat numbers (firstOf (entry u) n) in
+    let l : length xs ≡ w * n = flat-long S (firstOf (entry u) n) ∙ ap (λ i. w * i) (firstOf-length (entry u) n) in
+    zeros-behind u v Z xs start (start + w * n) to e (omega (arith, l)) h k (part-is S u n (omega arith))
+
+-- or n numbers by themselves
+numbers-zeros : (u v Z : List ℕ) (start n to : ℕ) → v ≡ take to u ++ Z → start + n ≤ to → to ≤ length u
+    → zeros (start + n) to v ≡ take start u ++ (padded (to - start) (firstOf (λ i. getD u (start + i) 0) n) ++ Z)
+numbers-zeros u v Z start n to e h k =
+    let xs = firstOf (λ i. getD u (start + i) 0) n in
+    zeros-behind u v Z xs start (start + n) to e (omega (arith, firstOf-length (λ i. getD u (start + i) 0) n)) h k (numbers-part u start n (omega arith))
 
 -- as a part is put back that was lent and cleared
 pub zeros-put : (t : List ℕ) (from to : ℕ) → from ≤ to → to ≤ length t → (ys : List ℕ) → ys ≡ filled (length (take (to - from) (drop from t))) []
@@ -314,32 +181,14 @@ module _ (u : List ℕ) (long : tableLong ≤ length u) (z : Sizes (people u) (h
   unfolding held
   cleared-is v₁ v₂ v₃ v₄ v₅ v₆ w₁ w₂ w₃ w₄ w₅ w₆ =
       let c = counted u z in
-      let E = held u in
-      let xs = flat nodeCells (E .nodes) in
-      let bs = flat branchCells (E .branches) in
-      let ds = flat defCells (E .defs) in
-      let l₂ = flat-long nodes-section (E .nodes) in
-      let l₃ = flat-long branches-section (E .branches) in
-      let l₄ = flat-long defs-section (E .defs) in
-      let e₁ = w₁ ∙ clear-behind u u [] (E .cells) 19304 (19304 + getD u 5 0) (length u) (sym (append-nil (take (length u) u) ∙ take-length u))
-      (omega (arith, firstOf-length (cellIn u) (getD u 5 0))) (omega (arith, c .cells)) (omega arith) (numbers-part 19304 (getD u 5 0) (omega (arith, c .cells))) in
-      let e₂ = w₂ ∙ clear-behind u v₁ _ (E .listed) 10344 (10344 + getD u 4 0) 19304 e₁
-      (omega (arith, firstOf-length (listedIn u) (getD u 4 0))) (omega (arith, c .listed)) (omega arith) (numbers-part 10344 (getD u 4 0) (omega (arith, c .listed))) in
-      let e₃ = w₃ ∙ clear-behind u v₂ _ ds 10248 (10248 + 3 * getD u 1 0) 10344 e₂
-      (omega (arith, l₄, firstOf-length (defIn u) (getD u 1 0))) (omega (arith, c .defs)) (omega arith) (part-is defs-section u (getD u 1 0) (omega (arith, c .defs))) in
-      let e₄ = w₄ ∙ clear-behind u v₃ _ bs 2056 (2056 + 8 * getD u 3 0) 10248 e₃
-      (omega (arith, l₃, firstOf-length (branchIn u) (getD u 3 0))) (omega (arith, c .branches)) (omega arith) (part-is branches-section u (getD u 3 0) (omega (arith, c .branches))) in
-      let e₅ = w₅ ∙ clear-behind u v₄ _ xs 8 (8 + 4 * getD u 2 0) 2056 e₄
-      (omega (arith, l₂, firstOf-length (nodeIn u) (getD u 2 0))) (omega (arith, c .nodes)) (omega arith) (part-is nodes-section u (getD u 2 0) (omega (arith, c .nodes))) in
-      let e₆ = w₆ ∙ clear-behind u v₅ _ (headerCells (people u) E) 0 6 8 e₅
-      (omega (arith, header-long (people u) E)) (omega arith) (omega arith)
-      (subst (λ ys. ys ≡ take (length ys) (drop 0 u)) (header-is u) (numbers-part 0 6 (omega arith))) in
-      e₆ ∙ sym (table-is (people u) E z (length u) long)
-    where
-      numbers-part : (start n : ℕ) → start + n ≤ length u → firstOf (λ i. getD u (start + i) 0) n ≡ take (length (firstOf (λ i. getD u (start + i) 0) n)) (drop start u)
-      numbers-part start n h =
-          subst (λ ys. ys ≡ take (length ys) (drop start u)) (flat-single (firstOf (λ i. getD u (start + i) 0) n))
-          (part-is (single-section start) u n (omega arith))
+      let e₀ = sym (append-nil (take (length u) u) ∙ take-length u) in
+      let e₁ = w₁ ∙ numbers-zeros u u [] 19304 (getD u 5 0) (length u) e₀ (omega (arith, c .cells)) (omega arith) in
+      let e₂ = w₂ ∙ numbers-zeros u v₁ _ 10344 (getD u 4 0) 19304 e₁ (omega (arith, c .listed)) (omega arith) in
+      let e₃ = w₃ ∙ section-zeros defs-section u v₂ _ (getD u 1 0) 10344 e₂ (omega (arith, c .defs)) (omega arith) in
+      let e₄ = w₄ ∙ section-zeros branches-section u v₃ _ (getD u 3 0) 10248 e₃ (omega (arith, c .branches)) (omega arith) in
+      let e₅ = w₅ ∙ section-zeros nodes-section u v₄ _ (getD u 2 0) 2056 e₄ (omega (arith, c .nodes)) (omega arith) in
+      let e₆ = w₆ ∙ numbers-zeros u v₅ _ 0 6 8 e₅ (omega arith) (omega arith) in
+      e₆ ∙ ap (λ xs. padded 8 xs ++ behindHeader (length u) (held u)) (header-is u) ∙ sym (table-is (people u) (held u) z (length u) long)
 
 -- ---- what stands where in a table
 
@@ -351,6 +200,9 @@ opened t rest xs start size e h =
       ap (λ ys. take (length xs) ys) (e ∙ append-assoc xs z rest) ∙ take-at xs (z ++ rest) (length xs) refl,
       sym (drop-drop size start t) ∙ ap (λ ys. drop size ys) e ∙ drop-at (padded size xs) rest size (padded-long size xs h),
     )
+
+first-told : (t xs : List ℕ) → take (length xs) t ≡ xs → (i : ℕ) → i < length xs → getD t i 0 ≡ getD xs i 0
+first-told t xs e i h = sym (getD-take (length xs) t i 0 h) ∙ ap (λ ys. getD ys i 0) e
 
 -- so it gives back what it holds
 module _ (K : ℕ) (E : Entries) (z : Sizes K E) (n : ℕ) (h : tableLong ≤ n) where
@@ -364,17 +216,13 @@ module _ (K : ℕ) (E : Entries) (z : Sizes K E) (n : ℕ) (h : tableLong ≤ n)
       let s₄ = opened t _ (flat defCells (E .defs)) 10248 96 (s₃ .1) (defs-fit K E z) in
       let s₅ = opened t _ (E .listed) 10344 8960 (s₄ .1) (z .listed) in
       let s₆ = opened t _ (E .cells) 19304 (n - 19304) (s₅ .1) (omega (arith, z .cells)) in
-      let told : (i : ℕ) → i < 6 → getD t i 0 ≡ getD (headerCells K E) i 0 = λ i l. sym (getD-take 6 t i 0 l) ∙ ap (λ xs. getD xs i 0) (s₁ .0) in
+      let told : (i : ℕ) → i < 6 → getD t i 0 ≡ getD (headerCells K E) i 0 = first-told t (headerCells K E) (s₁ .0) in
       let nodes = ap (λ k. firstOf (nodeIn t) k) (told 2 (omega arith)) ∙ holds nodes-section t (E .nodes) (omega (arith, z .nodes)) (s₂ .0) in
       let branches = ap (λ k. firstOf (branchIn t) k) (told 3 (omega arith)) ∙ holds branches-section t (E .branches) (omega (arith, z .branches)) (s₃ .0) in
       let defs = ap (λ k. firstOf (defIn t) k) (told 1 (omega arith)) ∙ holds defs-section t (E .defs) (omega (arith, z .defs .1)) (s₄ .0) in
       let listed = ap (λ k. firstOf (listedIn t) k) (told 4 (omega arith)) ∙ numbers-held t 10344 (E .listed) (omega (arith, z .listed)) (s₅ .0) in
       let cells = ap (λ k. firstOf (cellIn t) k) (told 5 (omega arith)) ∙ numbers-held t 19304 (E .cells) (omega (arith, z .cells)) (s₆ .0) in
       (told 0 (omega arith), rw (nodes, branches, defs, listed, cells))
-    where
-      numbers-held : (t : List ℕ) (start : ℕ) (xs : List ℕ) → start + length xs ≤ length t → take (length xs) (drop start t) ≡ xs → firstOf (λ i. getD t (start + i) 0) (length xs) ≡ xs
-      numbers-held t start xs l e =
-          holds (single-section start) t xs (omega arith) (subst (λ ys. take (length ys) (drop start t) ≡ ys) (sym (flat-single xs)) e)
 
   pub people-back : people (tableOf n K E) ≡ K
   people-back = holds-all (tableOf n K E) refl .0

@@ -51,10 +51,23 @@ all-ranged s K F p c a r h =
       cell = all-entry _ _ (g .sound .cells);
     }
 
--- the theorem: what is accepted is within its ranges
-pub sheet-ranged : (s : List ℕ) (K at : ℕ) (E : Entries) → readSheet s ≡ accepted K at E → Ranged K E
-sheet-ranged s =
-    accepted-ends s (Defines s) Ranged
+-- of an accepted sheet: its entries are within their ranges, and it ends within its text and within the limit
+record Read (s : List ℕ) (K at : ℕ) (E : Entries) : Type 0 where
+  ranged : Ranged K E
+  inside : at ≤ length s
+  short : at ≤ 32768
+
+sheet-read : (s : List ℕ) (K at : ℕ) (E : Entries) → readSheet s ≡ accepted K at E → Read s K at E
+sheet-read s =
+    accepted-ends s (Defines s) (Read s)
     (λ k n p c. blank-good s k n p (c .inside))
     (λ k n p i c l. define-good s k n (c .few-people) i)
-    (all-ranged s)
+    (λ k n p c a r h. record { ranged = all-ranged s k n p c a r h; inside = r .state .inside; short = h (r .state .inside) })
+
+-- the theorem: what is accepted is within its ranges
+pub sheet-ranged : (s : List ℕ) (K at : ℕ) (E : Entries) → readSheet s ≡ accepted K at E → Ranged K E
+sheet-ranged s K at E e = sheet-read s K at E e .ranged
+
+-- and ends within its text, of whose bytes it has 32,768 at the most
+pub sheet-inside : (s : List ℕ) (K at : ℕ) (E : Entries) → readSheet s ≡ accepted K at E → (at ≤ length s) × (at ≤ 32768)
+sheet-inside s K at E e = let r = sheet-read s K at E e in (r .inside, r .short)

@@ -12,3 +12,6 @@ pub mod Numbers
 pub mod Rules
 pub mod Keeping
 pub mod Whole
+pub mod Same
+pub mod Printed
+pub mod Claims

@@ -1,1 +1,137 @@
 // A sheet that stands in a table, written as text into a buffer that the caller lends.
+use fields::Got;
+use lines::sheet;
+use replies::Reply;
+use replies::answered;
+use replies::declined;
+use tables::Sheet;
+use texts::put_word;
+use writing::put_sheet;
+ghost use mathlib.Core.Path.{_≡_};
+ghost use mathlib.Core.Bool.{true, false};
+ghost use Prim.Native.Nat.{_+_, _≤_};
+ghost use lib.ListN.{length};
+ghost use Rattle.tables.specs.Entries.{held, people, tableLong};
+ghost use Rattle.lines.specs.Sheet.{readSheet};
+ghost use Rattle.writing.specs.Writable.{readAs};
+ghost use Rattle.writing.specs.Putting.{Within};
+ghost use Rattle.saving.specs.Comparing.{sameCells, sameSheet};
+ghost use Rattle.saving.specs.Saving.{saving, replyOf, bytesOf};
+
+// A sheet's text has 32,768 bytes at the most; the writer asks for room for a field that passes them.
+const ROOM: usize = 32800;
+
+// How many cells the header has: participants, and a count for each section.
+const HEADER: usize = 6;
+
+const UNWRITABLE: usize = 3;
+
+const TOO_SHORT: usize = 20;
+
+// Whether what the header counts lies within its section.
+fn counts_fit(t: &[usize]) -> bool
+    requires { ⌜ tableLong ≤ length (now t) ⌝ }
+    ensures { λ r. ⌜ (r ≡ true → Within (now (t .entry))) ⌝ }
+    ensures { λ r. ⌜ (r ≡ false → Within (now (t .entry)) → ⊥) ⌝ }
+{
+    if Sheet::DEFS < t[Sheet::DEFS_CELL] {
+        return false;
+    }
+    if Sheet::NODES < t[Sheet::NODES_CELL] {
+        return false;
+    }
+    if Sheet::BRANCHES < t[Sheet::BRANCHES_CELL] {
+        return false;
+    }
+    if Sheet::LISTED < t[Sheet::LISTED_CELL] {
+        return false;
+    }
+    if Sheet::CELLS < t[Sheet::CELLS_CELL] {
+        return false;
+    }
+    true
+}
+
+// Whether n cells from a place on are the same in both tables.
+fn same_cells(u: &[usize], t: &[usize], from: usize, n: usize) -> bool
+    requires { ⌜ (from + n ≤ length (now u)) × (from + n ≤ length (now t)) ⌝ }
+    ensures { λ r. ⌜ r ≡ sameCells from n (now (u .entry)) (now (t .entry)) ⌝ }
+{
+    let mut i = 0;
+    while i < n {
+        if u[from + i] != t[from + i] {
+            return false;
+        }
+        i += 1;
+    }
+    true
+}
+
+// Whether both tables hold the same sheet.
+fn same_sheet(u: &[usize], t: &[usize]) -> bool
+    requires { ⌜ tableLong ≤ length (now u) ⌝ }
+    requires { ⌜ (tableLong ≤ length (now t)) × Within (now t) ⌝ }
+    ensures { λ r. ⌜ r ≡ sameSheet (now (u .entry)) (now (t .entry)) ⌝ }
+{
+    if !same_cells(u, t, 0, HEADER) {
+        return false;
+    }
+    if !same_cells(u, t, Sheet::NODES_AT, 4 * t[Sheet::NODES_CELL]) {
+        return false;
+    }
+    if !same_cells(u, t, Sheet::BRANCHES_AT, 8 * t[Sheet::BRANCHES_CELL]) {
+        return false;
+    }
+    if !same_cells(u, t, Sheet::DEFS_AT, 3 * t[Sheet::DEFS_CELL]) {
+        return false;
+    }
+    if !same_cells(u, t, Sheet::LISTED_AT, t[Sheet::LISTED_CELL]) {
+        return false;
+    }
+    same_cells(u, t, Sheet::CELLS_AT, t[Sheet::CELLS_CELL])
+}
+
+// Whether the text reads to the sheet that the table holds, and nothing stands behind it.
+fn reads_back(s: &[u8], t: &[usize]) -> bool
+    requires { ⌜ length (now s) ≤ 65536 ⌝ }
+    requires { ⌜ (tableLong ≤ length (now t)) × Within (now t) ⌝ }
+    ensures { λ r. ⌜ r ≡ readAs (length (now (s .entry))) (people (now (t .entry))) (held (now (t .entry))) (readSheet (now (s .entry))) ⌝ }
+{
+    let mut u = [0usize; Sheet::TABLE];
+    let g = sheet(s, &mut u);
+    match g {
+        Got::Value(_, at) => {
+            if at != s.len() {
+                return false;
+            }
+            same_sheet(&u, t)
+        }
+        Got::Bad(_, _) => false,
+    }
+}
+
+// The sheet that the table holds, written as text at the start of the buffer; the bytes behind it stay.
+pub fn write_sheet(t: &[usize], text: &mut [u8]) -> Reply
+    ensures { λ r. ⌜ r ≡ replyOf (saving (now (t .entry)) (length (now (text .entry)))) ⌝ }
+    ensures { λ r. ⌜ now (text .exit) ≡ bytesOf (now (text .entry)) (saving (now (t .entry)) (length (now (text .entry)))) ⌝ }
+{
+    if t.len() < Sheet::TABLE {
+        return declined(UNWRITABLE, 0, 0);
+    }
+    if !counts_fit(t) {
+        return declined(UNWRITABLE, 0, 0);
+    }
+    let mut s = [0u8; ROOM];
+    let n = put_sheet(t, &mut s);
+    if n == 0 {
+        return declined(UNWRITABLE, 0, 0);
+    }
+    if !reads_back(&s[..n], t) {
+        return declined(UNWRITABLE, 0, 0);
+    }
+    if text.len() < n {
+        return declined(TOO_SHORT, 0, 0);
+    }
+    let e = put_word(text, 0, &s[..n]);
+    answered(e)
+}

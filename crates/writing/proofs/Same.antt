@@ -5,7 +5,6 @@ use mathlib.Core.Bool.{Bool, true, false, false≢true}
 use mathlib.Core.List.{List, [], _∷_}
 use lib.Dec.{eqb}
 use borrow.Author.Tests.{eqb-true, eq-eqb}
-use Rattle.bitml.specs.Lists.{_&_}
 use Rattle.bitml.proofs.Lists.{and-l, and-r, and-i}
 use Rattle.tables.specs.Entries.{NodeEntry, BranchEntry, DefEntry, Entries}
 use Rattle.lines.specs.Sheet.{SheetRead, accepted, refused}

@@ -19,9 +19,9 @@ use Rattle.steps.proofs.Ends.{Ends, good, refused, ends-test, ends-map, ends-ti
 -- ---- the limit on bytes only refuses
 
 -- P holds, and a sheet that ends within the request ends within the limit
-record Short (s : List ℕ) (P : State → Type 0) (a : State) : Type 0 where
-  holds : P a
-  short : a .at ≤ length s → a .at ≤ 32768
+pub record Short (s : List ℕ) (P : State → Type 0) (a : State) : Type 0 where
+  pub holds : P a
+  pub short : a .at ≤ length s → a .at ≤ 32768
 
 module _ {s : List ℕ} {P : State → Type 0} where
   beyond-short : (q : ℕ) {w : Outcome} → Ends P w → Ends (Short s P) (beyond q w)
@@ -29,7 +29,7 @@ module _ {s : List ℕ} {P : State → Type 0} where
   beyond-short q (good h) = ends-test _ _ _ (λ z. good (record { holds = h; short = λ i. leb-true _ _ z })) (λ z. refused)
   beyond-short q refused = ends-test _ _ _ (λ z. refused) λ z. ends-test _ _ _ (λ z. refused) λ z. ends-test _ _ _ (λ z. refused) (λ z. refused)
 
-  limited-short : {w : Outcome} → Ends P w → Ends (Short s P) (limited s w)
+  pub limited-short : {w : Outcome} → Ends P w → Ends (Short s P) (limited s w)
   unfolding limited
   limited-short h = ends-test _ _ _ (λ z. ends-map h λ a p. record { holds = p; short = λ i. omega (arith, i, leb-true (length s) 32768 z) }) (λ z. beyond-short _ h)
 

@@ -7,15 +7,16 @@ use native.Mathlib.Omega.{arith}
 use lib.ListN.{length, take, drop}
 use lib.Seq.{getD-take, drop-length, length-take-le}
 use lib.Dec.{eqb, ltb, leb}
-use borrow.Author.Tests.{eqb-true, leb-true, le-leb}
+use borrow.Author.Tests.{eqb-true, le-leb}
 use Rattle.fields.specs.Field.{spelled, fieldLen, whenRead, numberAt, betweenAt, firstAt, lineEndAt}
 use Rattle.fields.specs.declared.Got.{Got}
 use Rattle.fields.specs.declared.Got.the-variants as got
 use Rattle.fields.proofs.Ranges.{when-read-cases, cond-cases, line-end-next}
 use Rattle.tables.specs.Entries.{Entries}
 use Rattle.tables.specs.State.{State, entries}
-use Rattle.steps.specs.Steps.{Outcome, next, bad, either}
-use Rattle.steps.proofs.Ends.{Ends, good, refused, ends-test, ends-map}
+use Rattle.steps.specs.Steps.{Outcome, next, either}
+use Rattle.steps.proofs.Ends.{refused}
+use Rattle.ranges.proofs.Accepted.{limited-short}
 use Rattle.lines.specs.declared.LineOne.{LineOne}
 use Rattle.lines.specs.declared.LineOne.the-variants.{Counts, Bad}
 use Rattle.lines.specs.LineOne.{countsAt, lineOneAt}
@@ -86,15 +87,6 @@ module _ (s t : List ℕ) (m : ℕ) (l : Like s t m) where
 
 -- ---- the limit on bytes
 
-ends-fits : (s : List ℕ) {P : State → Type 0} (w : Outcome) → Ends P w → Ends (λ a. P a × (a .at ≤ length s → a .at ≤ 32768)) (limited s w)
-unfolding limited beyond
-ends-fits s (next a) f = ends-test _ _ _ (λ h. ends-map f λ a x. (x, λ i. let k = leb-true (length s) 32768 h in omega arith))
-    (λ h. ends-test _ _ _ (λ k. fits f (leb-true (a .at) 32768 k)) (λ k. refused))
-  where
-    fits : {P : State → Type 0} → Ends P (next a) → a .at ≤ 32768 → Ends (λ a. P a × (a .at ≤ length s → a .at ≤ 32768)) (next a)
-    fits (good x) k = good (x, λ i. k)
-ends-fits s (bad n p) f = ends-test _ _ _ (λ h. refused) (λ h. ends-test _ _ _ (λ h. refused) (λ h. ends-test _ _ _ (λ h. refused) (λ h. ends-test _ _ _ (λ h. refused) (λ h. refused))))
-
 either-same : (b : Bool) (x y : Outcome) → y ≡ x → either b x y ≡ x
 unfolding either
 either-same true x y e = refl
@@ -109,13 +101,13 @@ limited-same t a h = either-same (leb (length t) 32768) (next a) _ (test-yes (le
 module _ (s t : List ℕ) (at : ℕ) (l : Like s t at) where
   sheet-again : (r : LineOne) → lineOneAt s ≡ r → (K : ℕ) (E : Entries) → sheetFrom s r ≡ accepted K at E → readSheet t ≡ accepted K at E
   unfolding sheetFrom readSheet accept
-  sheet-again (Bad n p) e K E h = absurd (accept-is 0 K at E (ends-fits s {P = λ a. ⊥} (bad n p) refused) h .1 .0)
+  sheet-again (Bad n p) e K E h = absurd (accept-is 0 K at E (limited-short {s = s} {P = λ a. ⊥} refused) h .1 .holds)
   sheet-again (Counts k n p) e K E h =
-      let w = accept-is k K at E (ends-fits s _ (a-times s n (λ t. defineAt t (sizes k n)) (a-define s (sizes k n)) (blank p))) h in
+      let w = accept-is k K at E (limited-short (a-times s n (λ t. defineAt t (sizes k n)) (a-define s (sizes k n)) (blank p))) h in
       let a = w .0 in
-      let x = w .1 .0 in
+      let x = w .1 .holds in
       let end : a .at ≡ at = w .3 in
-      let fits : a .at ≤ 32768 = w .1 .1 (omega (arith, l .within)) in
+      let fits : a .at ≤ 32768 = w .1 .short (omega (arith, l .within)) in
       let fin : accepted k (a .at) (entries a) ≡ accepted K at E = let i = w .2 in let j = w .4 in cc in
       ap (sheetFrom t) (line-one-again s t at l k n p e (omega (arith, x .on)))
       ∙ ap (λ o. accept k (limited t o)) (x .again t at (omega arith) l)

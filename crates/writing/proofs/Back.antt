@@ -14,13 +14,14 @@ use Rattle.fields.proofs.Ranges.{when-read-cases, cond-cases, line-end-next}
 use Rattle.fields.proofs.Laws.{number-end}
 use Rattle.tables.specs.Entries.{Entries}
 use Rattle.tables.specs.State.{State, entries}
-use Rattle.steps.specs.Steps.{Outcome, next, bad}
-use Rattle.steps.proofs.Ends.{Ends, good, refused, ends-either}
+use Rattle.steps.specs.Steps.{Outcome}
+use Rattle.steps.proofs.Ends.{Ends, good, refused}
 use Rattle.lines.specs.declared.LineOne.{LineOne}
 use Rattle.lines.specs.declared.LineOne.the-variants.{Counts, Bad}
 use Rattle.lines.specs.LineOne.{countsAt, lineOneAt}
 use Rattle.lines.specs.Definition.{blank}
-use Rattle.lines.specs.Sheet.{beyond, limited, accepted, accept, sizes, sheetFrom, readSheet}
+use Rattle.lines.specs.Sheet.{accepted, accept, sizes, sheetFrom, readSheet}
+use Rattle.ranges.proofs.Accepted.{limited-short}
 use Rattle.texts.specs.Text.{letters, field, fields, line}
 use Rattle.writing.specs.Written.{repeat, defText, sheetText}
 use Rattle.writing.proofs.Fields.{between, between-join, field-back}
@@ -90,11 +91,6 @@ module _ (s : List ℕ) (hs : Bytes s) where
 
   -- ---- the whole sheet
 
-  ends-limited : {P : State → Type 0} (w : Outcome) → Ends P w → Ends P (limited s w)
-  unfolding limited beyond
-  ends-limited (next a) h = ends-either _ _ _ h (ends-either _ _ _ h refused)
-  ends-limited (bad n p) h = ends-either _ _ _ refused (ends-either _ _ _ refused (ends-either _ _ _ refused (ends-either _ _ _ refused refused)))
-
   from-start : (at : ℕ) → between s 0 at ≡ take at s
   unfolding between
   from-start at = ap (λ n. take n s) (let z : at - 0 ≡ at = omega arith in z)
@@ -115,11 +111,11 @@ module _ (s : List ℕ) (hs : Bytes s) where
 
   sheet-back : (l : LineOne) → lineOneAt s ≡ l → (K at : ℕ) (E : Entries) → sheetFrom s l ≡ accepted K at E → sheetText K E ≡ take at s
   unfolding sheetFrom
-  sheet-back (Bad n p) e K at E h = absurd (accept-is {P = λ a. ⊥} 0 K at E (ends-limited (bad n p) refused) h .1)
+  sheet-back (Bad n p) e K at E h = absurd (accept-is 0 K at E (limited-short {s = s} {P = λ a. ⊥} refused) h .1 .holds)
   sheet-back (Counts k n p) e K at E h =
-      let w = accept-is k K at E (ends-limited _ (lines-say s hs (sizes k n) n (blank p))) h in
+      let w = accept-is k K at E (limited-short {s = s} (lines-say s hs (sizes k n) n (blank p))) h in
       subst (λ i. sheetText K E ≡ take i s) (w .3) (subst (λ F. sheetText K F ≡ take (w .0 .at) s) (w .4)
-      (subst (λ i. sheetText i (entries (w .0)) ≡ take (w .0 .at) s) (w .2) (lines-back k n p (w .0) e (w .1))))
+      (subst (λ i. sheetText i (entries (w .0)) ≡ take (w .0 .at) s) (w .2) (lines-back k n p (w .0) e (w .1 .holds))))
 
 pub writes-back : (s : List ℕ) → Bytes s → (K at : ℕ) (E : Entries) → readSheet s ≡ accepted K at E → sheetText K E ≡ take at s
 unfolding readSheet

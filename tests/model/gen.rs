@@ -887,6 +887,27 @@ impl Generator {
         }
     }
 
+    /// A random sheet, now and then one at a limit or past it.
+    fn any_sheet(&mut self) -> Draft {
+        if self.random.chance(8) {
+            let edge = self.random.pick(&EDGES);
+            let over = self.random.pick(&[0, 0, 1, 1, 2]);
+            self.edge_sheet(edge, over)
+        } else {
+            self.sheet()
+        }
+    }
+
+    /// A text of line 1 and `def` lines, some of them damaged.
+    pub fn sheet_text(&mut self) -> Vec<u8> {
+        let draft = self.any_sheet();
+        if self.random.chance(30) {
+            self.damage(draft)
+        } else {
+            draft.bytes()
+        }
+    }
+
     /// The whole next request.
     pub fn request(&mut self) -> Vec<u8> {
         // A few requests are about the length of the whole, a few are hardly requests.
@@ -896,13 +917,7 @@ impl Generator {
             2 => return self.noise(),
             _ => {}
         }
-        let mut draft = if self.random.chance(8) {
-            let edge = self.random.pick(&EDGES);
-            let over = self.random.pick(&[0, 0, 1, 1, 2]);
-            self.edge_sheet(edge, over)
-        } else {
-            self.sheet()
-        };
+        let mut draft = self.any_sheet();
         self.add_last_part(&mut draft);
         if self.random.chance(30) {
             self.damage(draft)

@@ -9,7 +9,8 @@
 //! ./model wrong [CASES]                 do the cases pin the rules? (only with --cfg wrong_rules)
 //! ```
 //!
-//! CASES is the folder of the lists of cases, crates/cases/specs/Cases if not given; cases.rs has more.
+//! CASES is the folder of the lists of cases, crates/cases/specs/Cases if not given; cases.rs has more, and
+//! tables.rs those of sheets as tables.
 
 mod cases;
 #[path = "gen.rs"]
@@ -18,6 +19,7 @@ mod lists;
 mod model;
 #[cfg(wrong_rules)]
 mod pins;
+mod tables;
 
 use std::collections::{HashMap, HashSet, VecDeque};
 use std::io::{Read, Write};
@@ -26,6 +28,7 @@ use std::time::{Duration, Instant};
 
 use cases::{sheet_up_to, Case, D, M, R, T};
 use generate::{Generator, Random};
+use model::sheets::{self, read_sheet, write_sheet};
 use model::{Action, Condition, Expression, LastPart, Ledger, Reply, Row, Sheet};
 
 /// Counts the cases and keeps those that failed.
@@ -328,6 +331,55 @@ fn properties(cases: &mut Cases, seed: u64, count: usize) {
     println!("properties: {small} small sheets searched, {liquid} liquid, {plays} plays followed");
 }
 
+/// Sheets as tables: what is read is written back, and what is written from a table with another
+/// number reads to that table.
+fn both_ways(cases: &mut Cases, seed: u64, count: usize) {
+    let mut generator = Generator::new(seed);
+    let mut random = Random::new(seed);
+    let mut cells = vec![0; sheets::SHEET_CELLS];
+    let mut again = cells.clone();
+    let (mut read, mut changed, mut written) = (0, 0, 0);
+    for _ in 0..count {
+        let text = generator.sheet_text();
+        if read_sheet(&text, &mut cells).number != 0 {
+            cases.holds(
+                "a refused text is no sheet",
+                sheets::sheet_of(&cells).is_none(),
+            );
+            continue;
+        }
+        read += 1;
+        let back = sheets::text_of(&cells);
+        cases.holds(
+            "what was read is written",
+            back.as_deref().map(str::as_bytes) == Some(&text),
+        );
+        let mut request = text.clone();
+        request.extend_from_slice(b"make,0\n");
+        let sheet = model::read(&request).ok().map(|request| request.sheet);
+        cases.holds("the same sheet", sheet == sheets::sheet_of(&cells));
+        let filled = sheets::held(&cells).map(|section| section.collect::<Vec<_>>());
+        let filled = filled.into_iter().filter(|section| !section.is_empty());
+        let filled: Vec<Vec<usize>> = filled.collect();
+        for _ in 0..20 {
+            changed += 1;
+            let section = &filled[random.below(filled.len())];
+            let place = random.pick(section);
+            let old = cells[place];
+            cells[place] = random.pick(&[old + 1, old.wrapping_sub(1), 0, 1, 2, old ^ 4]);
+            if let Some(text) = sheets::text_of(&cells) {
+                written += 1;
+                let answer = read_sheet(text.as_bytes(), &mut again);
+                cases.holds("what was written is read", answer.length == text.len());
+                cases.holds("to the same table", again == cells);
+            }
+            cells[place] = old;
+        }
+    }
+    println!("tables: {read} read, {changed} changed, {written} of them written");
+    cases.holds("changed tables are written", written > 100);
+}
+
 /// The names of the limits that a request which was read reaches but does not pass.
 fn limits_reached(bytes: &[u8]) -> Vec<&'static str> {
     let Ok(request) = model::read(bytes) else {
@@ -615,6 +667,10 @@ fn selftest(folder: &Path, lists: &Path) -> Result<bool, String> {
     for case in lists::read(lists)?.iter().chain(&cases::by_hand()) {
         cases.expect(case);
     }
+    for case in tables::by_hand() {
+        let fault = case.fault(read_sheet, write_sheet).unwrap_or_default();
+        cases.holds(&format!("{}: {fault}", case.name), fault.is_empty());
+    }
     lists_are_strict(&mut cases);
     row_buffer(&mut cases);
     sheet_as_read(&mut cases);
@@ -622,6 +678,7 @@ fn selftest(folder: &Path, lists: &Path) -> Result<bool, String> {
     println!("speed:");
     speed(&mut cases);
     properties(&mut cases, 2, 3_000);
+    both_ways(&mut cases, 3, 2_000);
     examples(&mut cases, folder);
 
     let counts = generated(1, 20_000);
@@ -681,7 +738,8 @@ fn selftest(folder: &Path, lists: &Path) -> Result<bool, String> {
 
 #[cfg(wrong_rules)]
 fn wrong(lists: &Path) -> Result<bool, String> {
-    Ok(pins::test(&lists::read(lists)?, &cases::by_hand()))
+    let lists = lists::read(lists)?;
+    Ok(pins::test(&lists, &cases::by_hand(), &tables::by_hand()))
 }
 
 fn main() -> std::process::ExitCode {

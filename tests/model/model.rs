@@ -8,6 +8,7 @@
 //! * [`exits`], [`reached`], [`make`] and [`check`] are the judging part.
 //! * [`Ledger`] is the program's ledger; [`Ledger::step`] is one event.
 //! * [`judge`] is the whole program: bytes to what it prints, and the row buffer.
+//! * [`sheets`] has a sheet as a table, from its text and back.
 //!
 //! `rule!`, `limit!` and `lower!` are of wrong.rs.  What comes first in a `rule!` is the rule; what
 //! follows it are wrong ones by name, which only the test of the cases turns on.
@@ -15,6 +16,8 @@
 #[macro_use]
 #[path = "wrong.rs"]
 pub mod wrong;
+#[path = "sheets.rs"]
+pub mod sheets;
 
 // ---------------------------------------------------------------------------------------------
 // Limits

@@ -232,7 +232,33 @@ mod switch {
         ContractsMade "256 contracts made"
         SetsMade "32 sets made"
         DepositsTaken "2,100,000,000,000,000 of all deposits taken"
+        TableCells "52,072 cells of a table"
     }
+
+    /// These limits are those of a table too, and the cases of tables catch them.
+    pub const OF_TABLES: &[Limit] = &[
+        Limit::RequestBytes,
+        Limit::LeastParticipants,
+        Limit::Participants,
+        Limit::LeastDefinitions,
+        Limit::Deposits,
+        Limit::Secrets,
+        Limit::Owner,
+        Limit::BranchesOfANode,
+        Limit::Signers,
+        Limit::OpeningTime,
+        Limit::PaidTo,
+        Limit::RenewedAs,
+        Limit::Parts,
+        Limit::Weight,
+        Limit::LeastListed,
+        Limit::ListedSecret,
+        Limit::Constant,
+        Limit::FieldsAtCondition,
+        Limit::Depth,
+        Limit::SheetBytes,
+        Limit::TableCells,
+    ];
 
     table! { Rule:
         // fields and lines
@@ -494,6 +520,43 @@ mod switch {
         RefusalEndsPlay "a refused event ends the play"
         PaidBackwards "`end` has the last participant first"
         MadePrinted "`end` has the contracts made"
+        // a sheet as a table
+        ShortTableFirst "too short a table comes before 1"
+        ShortTableAfter "too short a table is told after reading"
+        BehindNotRead "what stands behind a sheet is not read"
+        EmptyLineBehind "an empty line behind a sheet is no line"
+        BehindIsThree "a line behind a sheet gets 3"
+        BehindAtTheSheet "a line behind a sheet is told on the sheet's last line"
+        BehindNowhere "a line behind a sheet is told at line 0"
+        PastCellsKept "cells past what is held keep what they were"
+        FarCellsKept "cells past the table keep what they were"
+        RefusedTableKept "after a refused text the table keeps what it was"
+        ShortBufferFirst "20 comes before 3"
+        ShortTableIsSeven "writing too short a table gets 7"
+        LongerBufferAsked "the buffer must be longer than the text"
+        BehindCleared "bytes behind the text are cleared"
+        ZeroBehind "a zero byte ends the text"
+        RefusedTextCleared "after a refused table the buffer is cleared"
+        WrittenAsFarAsFits "a buffer that is too short is filled"
+        NodesNotCounted "the count of nodes is not looked at"
+        BranchesNotCounted "the count of branches is not looked at"
+        ListedNotCounted "the count of listed numbers is not looked at"
+        ConditionsNotCounted "the count of cells of conditions is not looked at"
+        RootsNotAsked "a definition's root is not looked at"
+        DepositsAnywhere "where deposits are listed is not looked at"
+        NodesOfAnyDefinition "a node's definition is not looked at"
+        ParentsNotAsked "a node's parent is not looked at"
+        OtherWeightsNotAsked "the weight of what is no part of an `s` is not looked at"
+        BranchesOfAnyNode "a branch's node is not looked at"
+        OtherKindsRenew "a kind above 3 is a `g`"
+        UnusedFirst "where secrets are listed is not looked at without an `r`"
+        UnusedCount "the count of secrets is not looked at without an `r`"
+        UnusedCondition "where a condition stands is not looked at without an `r`"
+        SecretsAnywhere "where an `r` lists its secrets is not looked at"
+        ConditionsAnywhere "where the condition of an `r` stands is not looked at"
+        RevealedNotAsked "the node of an `r`'s contract is not looked at"
+        OtherWordsAreLt "a word of a condition above 4 is `lt`"
+        OtherWordsAreSub "a word of an expression above 3 is `sub`"
     }
 }
 

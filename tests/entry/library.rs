@@ -38,6 +38,18 @@ extern "C" {
         text: *mut u8,
         text_length: usize,
     ) -> usize;
+    fn hurkoxel_read_sheet(
+        text: *const u8,
+        text_length: usize,
+        cells: *mut usize,
+        cell_count: usize,
+    ) -> Reply;
+    fn hurkoxel_write_sheet(
+        cells: *const usize,
+        cell_count: usize,
+        text: *mut u8,
+        text_length: usize,
+    ) -> Reply;
 }
 
 pub fn judge(request: &[u8], rows: &mut [Row], text: &mut [u8]) -> Reply {
@@ -68,4 +80,16 @@ pub fn refused_line<'t>(reply: &Reply, text: &'t mut [u8]) -> &'t [u8] {
         )
     };
     &text[..length]
+}
+
+/// A text of line 1 and `def` lines into a table.
+pub fn read_sheet(text: &[u8], cells: &mut [usize]) -> Reply {
+    // SAFETY: as above.
+    unsafe { hurkoxel_read_sheet(text.as_ptr(), text.len(), cells.as_mut_ptr(), cells.len()) }
+}
+
+/// A table to its text.
+pub fn write_sheet(cells: &[usize], text: &mut [u8]) -> Reply {
+    // SAFETY: as above.
+    unsafe { hurkoxel_write_sheet(cells.as_ptr(), cells.len(), text.as_mut_ptr(), text.len()) }
 }

@@ -9,7 +9,8 @@
 //!
 //! The same memory is lent for every request and never cleared; before some calls it is filled with
 //! garbage, and what lies outside the lent parts must stay.  Of each answer the reply, every byte of
-//! text and every row is compared.  Every number from 1 to 19 must occur.
+//! text and every row is compared.  Every number from 1 to 19 must occur.  sheets.rs does the same for
+//! sheets as tables, for a tenth of COUNT texts.
 
 #[allow(dead_code)]
 #[path = "../model/cases.rs"]
@@ -22,6 +23,9 @@ mod lists;
 #[allow(dead_code)]
 #[path = "../model/model.rs"]
 mod model;
+mod sheets;
+#[path = "../model/tables.rs"]
+mod tables;
 
 use std::ops::Range;
 use std::path::{Path, PathBuf};
@@ -410,6 +414,17 @@ fn shown(reply: &Reply, text: &[u8]) -> String {
     format!("{number},{line},{field},{length} {}", text.escape_ascii())
 }
 
+/// The sheets NAME.txt of a folder with their paths.
+fn sheets_of(folder: &Path) -> std::io::Result<Vec<(String, String)>> {
+    let mut paths: Vec<PathBuf> = std::fs::read_dir(folder)?
+        .filter_map(|entry| entry.ok().map(|entry| entry.path()))
+        .filter(|path| path.extension().is_some_and(|extension| extension == "txt"))
+        .collect();
+    paths.sort();
+    let read = |path: &PathBuf| Ok((path.display().to_string(), std::fs::read_to_string(path)?));
+    paths.iter().map(read).collect()
+}
+
 impl Test {
     /// Prints the request and both answers.
     fn failed(&mut self, name: &str, what: &str, request: &[u8], due: &str, got: &str) {
@@ -529,25 +544,19 @@ impl Test {
 
     /// Each sheet NAME.txt of the folder has its verdicts by participant in NAME.expected.
     fn examples(&mut self, folder: &Path) -> std::io::Result<usize> {
-        let mut sheets: Vec<PathBuf> = std::fs::read_dir(folder)?
-            .filter_map(|entry| entry.ok().map(|entry| entry.path()))
-            .filter(|path| path.extension().is_some_and(|extension| extension == "txt"))
-            .collect();
-        sheets.sort();
-        for path in &sheets {
-            let name = path.display().to_string();
-            let sheet = std::fs::read_to_string(path)?;
-            let expected = std::fs::read_to_string(path.with_extension("expected"))?;
+        let sheets = sheets_of(folder)?;
+        for (name, sheet) in &sheets {
+            let expected = std::fs::read_to_string(Path::new(name).with_extension("expected"))?;
             for (participant, verdict) in expected.lines().enumerate() {
                 let request = format!("{sheet}make,{participant}\n");
-                let printed = self.request(&name, request.as_bytes());
+                let printed = self.request(name, request.as_bytes());
                 let last = printed.and_then(|lines| lines.lines().last().map(str::to_string));
-                self.compare(&name, request.as_bytes(), verdict, last);
+                self.compare(name, request.as_bytes(), verdict, last);
             }
             // One participant more than there are verdicts.
             let request = format!("{sheet}make,{}\n", expected.lines().count());
             let line = sheet.lines().count() + 1;
-            self.known(&name, request.as_bytes(), &format!("refused,6,{line},2\n"));
+            self.known(name, request.as_bytes(), &format!("refused,6,{line},2\n"));
         }
         Ok(sheets.len())
     }
@@ -636,7 +645,8 @@ fn run(seed: u64, count: usize, folder: &Path, lists: &Path) -> Result<usize, St
     if !missing.is_empty() {
         return Err(format!("never met: {}", missing.join(", ")));
     }
-    Ok(before.calls + test.counts.calls)
+    let tables = sheets::run(seed, count * sheets::SHEETS / GENERATED, folder)?;
+    Ok(before.calls + test.counts.calls + tables)
 }
 
 fn main() -> ExitCode {

@@ -256,6 +256,7 @@ pub fn by_hand() -> Vec<Case> {
     ranges(&mut cases);
     largest_counts(&mut cases);
     limits(&mut cases);
+    text_bytes(&mut cases);
     cases.list
 }
 
@@ -629,39 +630,24 @@ fn limits(cases: &mut Cases) {
     );
     cases.written("64 fields", &nested(64), 1_000, &text);
     cases.unwritten("65 fields", &nested(65), 1_000, 3);
-    // As many nodes as there is room for, and as many branches.
-    let leaves = vec!["1,c,0"; 8].join(",");
-    let split = |parts: &str| format!("0,0,s,8,{parts}");
-    let nodes = format!("c,7,{}", vec![split(&leaves); 7].join(","));
-    let full = format!("bitml,1,9\n{}", format!("def,1,0,{nodes}\n").repeat(8));
-    let full = full
-        + &format!(
-            "def,1,0,c,7,{},0,0,s,6,{}\n",
-            vec![split(&leaves); 6].join(","),
-            vec!["1,c,0"; 6].join(",")
-        );
-    let table = table_of(&full);
-    assert_eq!(table[2], 8 * 57 + 55);
-    cases.written("511 nodes", &table, 40_000, &full);
-    let last = full
-        .replace("s,6,", "s,7,")
-        .replace("0,0,s,7,1", "0,0,s,7,1,c,0,1");
-    let table = table_of(&last);
-    assert_eq!(table[2], 512);
-    cases.written("512 nodes", &table, 40_000, &last);
-    // One more part of the last split would be node 512, where the branches begin.
-    let split = BRANCHES_AT + 8 * (table[3] - 1) + 4;
-    assert_eq!(table[split], 7);
-    let mut over = with(&table, split, 8);
-    over[2] = 513;
-    cases.unwritten("513 nodes", &over, 40_000, 3);
+    // 512 nodes, 16 in each of 32 definitions; one part more would be a node where the branches begin.
+    let parts = |count: usize| format!(",0,0,s,{count}{}", ",1,c,0".repeat(count));
+    let definition = format!("def,1,0,c,2{}{}\n", parts(8), parts(7));
+    let full = format!("bitml,1,32\n{}", definition.repeat(32));
+    let mut table = table_of(&full);
+    cases.written("512 nodes", &table, 40_000, &full);
+    table[BRANCHES_AT + 8 * 63 + 4] = 8;
+    table[2] = 513;
+    cases.unwritten("513 nodes", &table, 40_000, 3);
     let branches = |count: usize| vec!["0,0,w,0"; count].join(",");
     let root = format!("c,16,{},0,0,s,1,1,c,16,{}", branches(15), branches(16));
     let full = format!("bitml,1,32\n{}", format!("def,1,0,{root}\n").repeat(32));
     let table = table_of(&full);
-    assert_eq!(table[3], 1_024);
     cases.written("1,024 branches", &table, 40_000, &full);
-    // 32,768 bytes, and an opening time of one digit more.
+}
+
+/// 32,768 bytes, and an opening time of one digit more.
+fn text_bytes(cases: &mut Cases) {
     let full = sheet_up_to(32_768 - 8) + "0,0,w,0\n";
     let table = table_of(&full);
     let opens = BRANCHES_AT + 8 * (table[3] - 1) + 2;

@@ -1,0 +1,392 @@
+//! Sheets as tables: the library's two functions against the model, every reply, cell and byte.
+//!
+//! The same memory is lent for every call, at places that change, and holds garbage or what the last call
+//! left.  The model runs on a copy of it, so that everything outside what is lent must stay too.
+
+use std::ops::Range;
+use std::path::Path;
+
+use crate::generate::{Generator, Random};
+use crate::model::sheets::{self, Answer, SHEET_CELLS};
+use crate::{library, model, tables};
+
+/// So many texts of a fixed seed show every number.
+pub const SHEETS: usize = 2_000;
+
+/// The ends of the ranges and of the sections.
+const MOST: [usize; 16] = [
+    8,
+    16,
+    32,
+    64,
+    512,
+    model::WEIGHT as usize,
+    1_024,
+    8_960,
+    32_768,
+    65_535,
+    model::VALUE as usize,
+    model::TIME as usize,
+    model::SATOSHI as usize,
+    1 << 32,
+    1 << 63,
+    usize::MAX,
+];
+
+/// Memory that calls lend parts of, and the model's copy.
+struct Memory<T> {
+    library: Vec<T>,
+    model: Vec<T>,
+}
+
+impl<T: Copy + PartialEq> Memory<T> {
+    fn new(length: usize, garbage: T) -> Memory<T> {
+        Memory {
+            library: vec![garbage; length],
+            model: vec![garbage; length],
+        }
+    }
+
+    fn fill(&mut self, garbage: impl FnMut() -> T) {
+        self.library.fill_with(garbage);
+        self.model.copy_from_slice(&self.library);
+    }
+
+    /// A part of this length, somewhere.
+    fn part(&self, random: &mut Random, length: usize) -> Range<usize> {
+        let first = random.below(self.library.len() - length + 1);
+        first..first + length
+    }
+
+    /// The first place in which the two differ.
+    fn difference(&self) -> Option<usize> {
+        if self.library == self.model {
+            return None;
+        }
+        let mut pairs = self.library.iter().zip(&self.model);
+        pairs.position(|(one, other)| one != other)
+    }
+}
+
+/// What occurred.
+#[derive(Default)]
+struct Counts {
+    calls: usize,
+    /// By number, 0 for what was read or written.
+    read: [usize; 21],
+    written: [usize; 21],
+    longest: usize,
+}
+
+pub struct Test {
+    random: Random,
+    cells: Memory<usize>,
+    text: Memory<u8>,
+    counts: Counts,
+    failed: Vec<String>,
+}
+
+/// A text or a table as it stands in the report of a failure.
+fn shown(text: &[u8]) -> String {
+    let most = text.len().min(1_000);
+    format!("{} bytes: {}", text.len(), text[..most].escape_ascii())
+}
+
+fn answer(reply: library::Reply) -> Answer {
+    Answer {
+        number: reply.number,
+        line: reply.line,
+        field: reply.field,
+        length: reply.length,
+    }
+}
+
+fn read_sheet(text: &[u8], cells: &mut [usize]) -> Answer {
+    answer(library::read_sheet(text, cells))
+}
+
+fn write_sheet(cells: &[usize], text: &mut [u8]) -> Answer {
+    answer(library::write_sheet(cells, text))
+}
+
+impl Test {
+    pub fn new(seed: u64) -> Test {
+        Test {
+            random: Random::new(seed),
+            cells: Memory::new(SHEET_CELLS + 1_000, usize::MAX),
+            text: Memory::new(model::SHEET_BYTES + 1_000, b'?'),
+            counts: Counts::default(),
+            failed: Vec::new(),
+        }
+    }
+
+    /// Reads a text into so many cells; what the table then holds.
+    fn read(&mut self, name: &str, text: &[u8], cell_count: usize) -> (Answer, Vec<usize>) {
+        let random = &mut self.random;
+        if random.chance(10) {
+            self.cells.fill(|| random.next() as usize);
+        }
+        let part = self.cells.part(random, cell_count);
+        let due = sheets::read_sheet(text, &mut self.cells.model[part.clone()]);
+        let got = read_sheet(text, &mut self.cells.library[part.clone()]);
+        self.counts.calls += 1;
+        self.counts.read[due.number] += 1;
+        if got != due {
+            let text = shown(text);
+            let what = format!("{name}, {cell_count} cells: due {due:?}, got {got:?}; {text}");
+            self.failed.push(what);
+        }
+        if let Some(place) = self.cells.difference() {
+            let first = part.start as isize;
+            let (got, due) = (self.cells.library[place], self.cells.model[place]);
+            let text = shown(text);
+            self.failed.push(format!(
+                "{name}, {cell_count} cells: cell {} is {got}, due {due}; {text}",
+                place as isize - first
+            ));
+            self.cells.fill(|| 0);
+        }
+        (due, self.cells.model[part].to_vec())
+    }
+
+    /// Writes a table to so many bytes.
+    fn write(&mut self, name: &str, cells: &[usize], length: usize) -> Answer {
+        let random = &mut self.random;
+        if random.chance(10) {
+            self.text.fill(|| random.next() as u8);
+        }
+        let part = self.text.part(random, length);
+        let due = sheets::write_sheet(cells, &mut self.text.model[part.clone()]);
+        let got = write_sheet(cells, &mut self.text.library[part.clone()]);
+        self.counts.calls += 1;
+        self.counts.written[due.number] += 1;
+        self.counts.longest = self.counts.longest.max(due.length);
+        if got != due {
+            self.failed.push(format!(
+                "{name}, {length} bytes: due {due:?}, got {got:?}; header {:?}",
+                cells.get(..6)
+            ));
+        }
+        if let Some(place) = self.text.difference() {
+            let first = part.start as isize;
+            self.failed.push(format!(
+                "{name}, {length} bytes: byte {} is another",
+                place as isize - first
+            ));
+            self.text.fill(|| b'?');
+        }
+        due
+    }
+
+    /// A table that some text reads to, written to buffers just long enough, one byte short, and of other lengths.
+    fn back(&mut self, name: &str, text: &[u8], table: &[usize]) {
+        let length = text.len();
+        let short = self.random.below(length);
+        let long = self.random.between(length, self.text.library.len());
+        for room in [length, length - 1, length + 1, 0, short, long] {
+            let due = if room < length { 20 } else { 0 };
+            if self.write(name, table, room).number != due {
+                self.failed
+                    .push(format!("{name}: the model has another answer than {due}"));
+            }
+        }
+    }
+
+    /// A text both ways, with short tables, and with something behind it.
+    fn both_ways(&mut self, name: &str, text: &[u8]) {
+        let short = self.random.below(SHEET_CELLS);
+        let short = self.random.pick(&[0, 1, SHEET_CELLS - 1, short]);
+        let long = self.random.between(SHEET_CELLS, self.cells.library.len());
+        let few = self.random.chance(10);
+        if few {
+            self.read(name, text, short);
+        }
+        let count = self.random.pick(&[SHEET_CELLS, SHEET_CELLS, long]);
+        let (answer, mut table) = self.read(name, text, count);
+        if answer.number != 0 {
+            // Zeros are no sheet.
+            self.write(name, &table, 100);
+            return;
+        }
+        self.back(name, text, &table);
+        if few {
+            let room = length_of(&mut self.random, text);
+            self.write(name, &table[..short], room);
+            let behind: &[&[u8]] = &[b"\n", b"x", b",", b"make,0\n", b"def,1,0,c,0\n", text];
+            let more = [text, self.random.pick(behind)].concat();
+            self.read(name, &more, SHEET_CELLS);
+        }
+        // What stands past the counts is not looked at.
+        if self.random.chance(20) {
+            let held = sheets::held(&table);
+            let mut marked: Vec<usize> =
+                table.iter().map(|_| self.random.next() as usize).collect();
+            for section in held {
+                marked[section.clone()].copy_from_slice(&table[section]);
+            }
+            self.back(name, text, &marked);
+        }
+        for _ in 0..4 {
+            let room = length_of(&mut self.random, text);
+            let changes = self.random.pick(&[1, 1, 1, 2, 3]);
+            let places: Vec<usize> = (0..changes).map(|_| self.held_place(&table)).collect();
+            let old: Vec<usize> = places.iter().map(|place| table[*place]).collect();
+            for place in &places {
+                table[*place] = self.other(*place, table[*place]);
+            }
+            self.write(name, &table, room);
+            for (place, old) in places.iter().zip(&old).rev() {
+                table[*place] = *old;
+            }
+        }
+    }
+
+    /// A cell of the held part, each section as likely as another.
+    fn held_place(&mut self, table: &[usize]) -> usize {
+        let held = sheets::held(table);
+        loop {
+            let section = &held[self.random.below(6)];
+            if !section.is_empty() {
+                return self.random.between(section.start, section.end - 1);
+            }
+        }
+    }
+
+    /// Another number for a cell: near the old one, small, at the end of some range, or any.
+    fn other(&mut self, place: usize, old: usize) -> usize {
+        let far = self.random.pick(&MOST).wrapping_add(self.random.below(2));
+        let any = self.random.next() as usize;
+        let small = self.random.below(20);
+        let near = [old.wrapping_add(1), old.wrapping_sub(1), old ^ 2];
+        let near = self.random.pick(&near);
+        let bound = if place < 6 { 40_000 } else { 2_000 };
+        let some = self.random.below(bound);
+        self.random
+            .pick(&[near, near, near, small, small, far, some, any])
+    }
+
+    /// Every cell that a small sheet holds, with several numbers in its place.
+    fn every_cell(&mut self, name: &str, text: &[u8]) {
+        let (answer, mut table) = self.read(name, text, SHEET_CELLS);
+        if answer.number != 0 {
+            self.failed.push(format!("{name} is not read"));
+            return;
+        }
+        let held = sheets::held(&table);
+        for place in held.into_iter().flatten() {
+            let old = table[place];
+            let near = [old.wrapping_sub(1), old + 1, old + 2, old ^ 8];
+            let small = 0..6;
+            for number in near.into_iter().chain(small).chain(MOST) {
+                table[place] = number;
+                let room = self.random.pick(&[text.len(), text.len() + 30, 0]);
+                self.write(name, &table, room);
+            }
+            table[place] = old;
+        }
+        // The header's last two cells, and the first behind each section.
+        let behind = sheets::held(&table).map(|section| section.end);
+        for place in behind.into_iter().chain([7]) {
+            let old = table[place];
+            table[place] = self.random.next() as usize;
+            self.back(name, text, &table);
+            table[place] = old;
+        }
+    }
+
+    /// Tables of random numbers: any, small, or with a header in its ranges.
+    fn nonsense(&mut self) {
+        let bound = self.random.pick(&[1, 2, 3, 5, 17, 1_025, usize::MAX]);
+        let length = self
+            .random
+            .pick(&[SHEET_CELLS, SHEET_CELLS + 10, SHEET_CELLS - 1, 20_000]);
+        let mut table: Vec<usize> = (0..length).map(|_| self.random.below(bound)).collect();
+        if self.random.chance(70) {
+            for (place, most) in [16, 32, 512, 1_024, 8_960, 32_768].into_iter().enumerate() {
+                let past = self.random.pick(&[most + 1, 2 * most, usize::MAX]);
+                let within = self.random.below(most + 1);
+                table[place] = self.random.pick(&[within, within, within, most, past]);
+            }
+        }
+        let room = self.random.pick(&[0, 100, model::SHEET_BYTES]);
+        self.write("random cells", &table, room);
+    }
+
+    fn cases(&mut self) -> usize {
+        let cases = tables::by_hand();
+        for case in &cases {
+            self.counts.calls += 1;
+            if let Some(fault) = case.fault(read_sheet, write_sheet) {
+                self.failed.push(format!("{}: {fault}", case.name));
+            }
+        }
+        cases.len()
+    }
+
+    /// What should have occurred and did not.
+    fn missing(&self) -> Vec<String> {
+        let read = [0, 1, 2, 3, 4, 5, 6, 7, 8, 9]
+            .map(|number| ("reading", number, self.counts.read[number]));
+        let written = [0, 3, 20].map(|number| ("writing", number, self.counts.written[number]));
+        let all = read.into_iter().chain(written);
+        let never = all.filter(|(_, _, count)| *count == 0);
+        never
+            .map(|(what, number, _)| format!("{what}: {number}"))
+            .collect()
+    }
+}
+
+/// A buffer's length: about that of the text, nothing, or as long as a text may be.
+fn length_of(random: &mut Random, text: &[u8]) -> usize {
+    let length = text.len();
+    random.pick(&[length, length, length + 20, 0, model::SHEET_BYTES])
+}
+
+/// So many sheets of a seed, the examples and the cases; how many calls were compared.
+pub fn run(seed: u64, count: usize, folder: &Path) -> Result<usize, String> {
+    let mut test = Test::new(seed);
+    let cases = test.cases();
+    let too_long = vec![b'a'; model::REQUEST_BYTES + 1];
+    for cells in [0, SHEET_CELLS - 1, SHEET_CELLS] {
+        test.read("65,537 bytes", &too_long, cells);
+        test.read("65,536 bytes", &too_long[1..], cells);
+    }
+    for (name, sheet) in crate::sheets_of(folder).map_err(|error| error.to_string())? {
+        test.every_cell(&name, sheet.as_bytes());
+    }
+    let mut generator = Generator::new(seed);
+    for index in 0..count {
+        let text = generator.sheet_text();
+        test.both_ways(&format!("sheet {index} of seed {seed}"), &text);
+        test.nonsense();
+        if test.failed.len() >= crate::FAILURES {
+            break;
+        }
+    }
+    for failure in test.failed.iter().take(crate::FAILURES) {
+        println!("FAILED: {failure}");
+    }
+    if !test.failed.is_empty() {
+        return Err(format!("tables: {} failed", test.failed.len()));
+    }
+    let Counts {
+        calls,
+        read,
+        written,
+        longest,
+    } = &test.counts;
+    println!(
+        "tables: {cases} cases, {calls} calls; read {}, written {}, longest text {longest}",
+        read[0], written[0]
+    );
+    println!(
+        "  refused by number, reading {:?}, writing {:?}",
+        &read[1..10],
+        [written[3], written[20]]
+    );
+    let missing = test.missing();
+    if count >= SHEETS && !missing.is_empty() {
+        return Err(format!("never met: {}", missing.join(", ")));
+    }
+    Ok(*calls)
+}

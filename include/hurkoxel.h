@@ -21,15 +21,19 @@ extern "C" {
 #define HURKOXEL_TEXT_BYTES 180224
 /* Enough for the line of a refused request. */
 #define HURKOXEL_LINE_BYTES 80
+/* The shortest table that is enough for any sheet, and a buffer that is enough for the text of any table. */
+#define HURKOXEL_SHEET_CELLS 52072
+#define HURKOXEL_SHEET_BYTES 32768
 
 /* A row: P leaves this node by this branch, with so many firings at most. */
 typedef struct {
     size_t node, branch, rank;
 } hurkoxel_row;
 
-/* length not 0: answered; so many bytes of text were written, and number, line and field are 0.
- * length 0: the request was refused by this number (1 to 13), at this line and field (both from 1; field 0 from number 10 up; line 0 and
- * field 0 where the request is too long or a buffer too short). docs/FORMAT.md has the table. */
+/* length not 0: answered; so many bytes of text were written (read, by hurkoxel_read_sheet), and number, line and field
+ * are 0.
+ * length 0: refused by this number (1 to 13, 20), at this line and field (both from 1; field 0 from number 10 up; line 0
+ * and field 0 where the request is too long, a buffer too short or a table no sheet). docs/FORMAT.md has the table. */
 typedef struct {
     size_t number, line, field, length;
 } hurkoxel_reply;
@@ -66,6 +70,89 @@ hurkoxel_reply hurkoxel_judge(const uint8_t *request, size_t request_length,
  * text and answers its length. With fewer than 80 bytes lent it writes nothing and answers 0. */
 size_t hurkoxel_refused_line(size_t number, size_t line, size_t field,
                              uint8_t *text, size_t text_length);
+
+/* A sheet as a table: numbers in sections that begin at fixed places, entries in the order of the text. docs/FORMAT.md,
+ * "A sheet as a table", says what each number is. */
+typedef size_t hurkoxel_cell;
+
+/* The header: how many participants, definitions, nodes, branches, listed numbers and cells of conditions there are. */
+enum {
+    HURKOXEL_COUNT_PARTICIPANTS,
+    HURKOXEL_COUNT_DEFINITIONS,
+    HURKOXEL_COUNT_NODES,
+    HURKOXEL_COUNT_BRANCHES,
+    HURKOXEL_COUNT_LISTED,
+    HURKOXEL_COUNT_CONDITIONS
+};
+
+/* Where the sections begin, and how many cells an entry has. */
+#define HURKOXEL_NODES_AT 8
+#define HURKOXEL_NODE_CELLS 4
+#define HURKOXEL_BRANCHES_AT 2056
+#define HURKOXEL_BRANCH_CELLS 8
+#define HURKOXEL_DEFINITIONS_AT 10248
+#define HURKOXEL_DEFINITION_CELLS 3
+#define HURKOXEL_LISTED_AT 10344
+#define HURKOXEL_CONDITIONS_AT 19304
+
+/* The cells of a node: its definition, the branch that holds it (HURKOXEL_NO_BRANCH for a root), its weight there (0
+ * unless it is a part of an `s`), its count of branches. */
+enum { HURKOXEL_NODE_DEFINITION, HURKOXEL_NODE_PARENT, HURKOXEL_NODE_WEIGHT, HURKOXEL_NODE_COUNT };
+#define HURKOXEL_NO_BRANCH 1024
+
+/* The cells of a branch: its node, signers, opening time, kind, and the kind's argument; then, for an `r` (else 0),
+ * where its secrets are listed, how many they are, and where its condition stands. */
+enum {
+    HURKOXEL_BRANCH_NODE,
+    HURKOXEL_BRANCH_SIGNERS,
+    HURKOXEL_BRANCH_OPENS,
+    HURKOXEL_BRANCH_KIND,
+    HURKOXEL_BRANCH_ARGUMENT,
+    HURKOXEL_BRANCH_FIRST,
+    HURKOXEL_BRANCH_COUNT,
+    HURKOXEL_BRANCH_CONDITION
+};
+
+/* The kinds `w`, `s`, `r` and `g`. The argument is whom it pays, how many parts it has, the node of its contract, or the
+ * definition that it renews as. */
+enum { HURKOXEL_WITHDRAW, HURKOXEL_SPLIT, HURKOXEL_REVEAL, HURKOXEL_RENEW };
+
+/* The cells of a definition: its root, where its deposits and then its owners are listed, its count of secrets. */
+enum { HURKOXEL_DEFINITION_ROOT, HURKOXEL_DEFINITION_FIRST, HURKOXEL_DEFINITION_SECRETS };
+
+/* The words of conditions and of expressions; each field of a condition is one cell. */
+enum { HURKOXEL_TRUE, HURKOXEL_AND, HURKOXEL_NOT, HURKOXEL_EQUAL, HURKOXEL_LESS };
+enum { HURKOXEL_CONSTANT, HURKOXEL_SECRET, HURKOXEL_ADD, HURKOXEL_SUBTRACT };
+
+/* Reads a text of line 1 and `def` lines, with nothing behind them, into a table.
+ *
+ * In this order:
+ *   1. A text of more than 65,536 bytes gets number 1 at 0,0.
+ *   2. A table of under 52,072 cells gets number 7 at 0,0. Longer ones are fine.
+ *   3. The text is read; its first bad field gets 2 to 9. A line behind the sheet gets 9 at its field 1.
+ *
+ * Read: `length` is `text_length`, and the table holds the sheet; every cell past what is held is zero, in each section
+ * and behind the last. Refused: every cell is zero, whatever the length. It makes no difference what the table held.
+ *
+ * The host's part, here and below: each pointer is valid for its length and not null (not even with length 0), `cells`
+ * is aligned as a size_t, the two do not overlap, and nobody else writes to them during the call.
+ */
+hurkoxel_reply hurkoxel_read_sheet(const uint8_t *text, size_t text_length,
+                                   hurkoxel_cell *cells, size_t cell_count);
+
+/* Writes the text that reads to what a table holds.
+ *
+ * In this order:
+ *   1. A table that no text reads to gets number 3 at 0,0: some number is none that reading gives in its place, the text
+ *      would pass 32,768 bytes, or there are under 52,072 cells. Cells past what the header counts are not looked at.
+ *   2. A buffer that is too short for the text gets number 20 at 0,0.
+ *
+ * Written: text[0] to text[length - 1] are the text, with LF after each line; every byte from text[length] on is as it
+ * was. Refused: every byte is as it was. What was read is written as the same bytes, and what was written reads to the
+ * same sheet.
+ */
+hurkoxel_reply hurkoxel_write_sheet(const hurkoxel_cell *cells, size_t cell_count,
+                                    uint8_t *text, size_t text_length);
 
 #ifdef __cplusplus
 }

@@ -276,8 +276,8 @@ impl Test {
         for place in held.into_iter().flatten() {
             let old = table[place];
             let near = [old.wrapping_sub(1), old + 1, old + 2, old ^ 8];
-            let small = 0..6;
-            for number in near.into_iter().chain(small).chain(MOST) {
+            let far = [(); 4].map(|_| self.random.pick(&MOST));
+            for number in near.into_iter().chain(0..6).chain(far) {
                 table[place] = number;
                 let room = self.random.pick(&[text.len(), text.len() + 30, 0]);
                 self.write(name, &table, room);

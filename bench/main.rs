@@ -5,8 +5,9 @@
 //! ```
 //!
 //! Both sides have the same duty: from the bytes of a request to a reply, with every byte of the same
-//! two buffers written, zeros past the answer.  The runs of the two alternate, so that a busy machine
-//! hits both alike, and the medians are compared.
+//! two buffers written, zeros past the answer; from a text to a table, with every cell written; from a
+//! table to its text.  The runs of the two alternate, so that a busy machine hits both alike, and the
+//! medians are compared.
 
 #[allow(dead_code)]
 #[path = "../tests/model/cases.rs"]
@@ -23,11 +24,14 @@ use std::process::{Command, ExitCode};
 use std::time::{Duration, Instant};
 
 use library::{Reply, Row};
+use model::sheets::{self, Answer, SHEET_CELLS};
 
 /// So long is one request run, both sides together.
 const TIME: Duration = Duration::from_millis(1_500);
 /// And at least so many times.
 const RUNS: usize = 31;
+/// Writing a large sheet may take so many times as long as reading it.
+const WRITING: f64 = 3.0;
 
 // ---------------------------------------------------------------------------------------------
 // Requests
@@ -193,10 +197,51 @@ fn requests() -> Vec<(&'static str, String)> {
     ]
 }
 
+/// As many entries and fields as fit: 512 nodes, all but the roots behind an `r` that lists eight secrets,
+/// in short fields.
+fn shortest_fields() -> String {
+    let reveal = ",0,0,r,8,0,1,2,3,4,5,6,7,and,t,lt,v,7,add,k,0,k,0,c,1,0,0,w,0".repeat(15);
+    let definition = format!("def,1,8{},c,16{reveal},0,0,g,0\n", ",0".repeat(8));
+    format!("bitml,1,32\n{}", definition.repeat(32))
+}
+
+/// As many long numbers as fit: 1,024 branches.
+fn longest_numbers() -> String {
+    let guard = ",65535,4294967295";
+    let branches = |count: usize| format!("{guard},w,15").repeat(count);
+    let deposits = ",100000000000000".repeat(16);
+    let split = format!("{guard},s,1,1000,c,16{}", branches(16));
+    let definition = format!("def{deposits},0,c,16{}{split}\n", branches(15));
+    format!("bitml,16,32\n{}", definition.repeat(32))
+}
+
+/// Contracts and a condition as deep as they may be, for the stack.
+fn deepest() -> String {
+    let chain = ",c,1,0,0,s,1,1".repeat(30);
+    let condition = ",not".repeat(63);
+    format!("bitml,1,1\ndef,1,1,0{chain},c,1,0,0,r,1,0{condition},t,c,0\n")
+}
+
+/// Sheets to read into a table and to write from it.
+fn sheets_to_write() -> Vec<(&'static str, String)> {
+    vec![
+        ("smallest", cases::T.to_string()),
+        ("deepest", deepest()),
+        ("largest sheet", largest_sheet()),
+        ("shortest fields", shortest_fields()),
+        ("longest numbers", longest_numbers()),
+        (
+            "longest conditions",
+            cases::sheet_up_to(model::SHEET_BYTES - 8) + "0,0,w,0\n",
+        ),
+    ]
+}
+
 // ---------------------------------------------------------------------------------------------
 // Runs
 // ---------------------------------------------------------------------------------------------
 
+#[derive(PartialEq)]
 struct Buffers {
     rows: Vec<Row>,
     text: Vec<u8>,
@@ -261,20 +306,55 @@ fn timed<T>(times: &mut Vec<Duration>, run: impl FnOnce() -> T) -> T {
     answer
 }
 
-/// Medians of the library and of the model; their answers must be the same.
-fn race(request: &[u8]) -> Result<(f64, f64, usize), String> {
-    let (mut ours, mut theirs) = (Buffers::new(), Buffers::new());
-    let (mut library, mut model) = (Vec::new(), Vec::new());
+/// Medians of the library and of the model, each with its own buffers; the answers and what the buffers
+/// then hold must be the same.
+fn race<B: PartialEq>(
+    new: impl Fn() -> B,
+    library: impl Fn(&mut B) -> Reply,
+    model: impl Fn(&mut B) -> Reply,
+) -> Result<(f64, f64, usize), String> {
+    let (mut ours, mut theirs) = (new(), new());
+    let (mut by_library, mut by_model) = (Vec::new(), Vec::new());
     let start = Instant::now();
-    while start.elapsed() < TIME || library.len() < RUNS {
-        let due = timed(&mut model, || theirs.by_model(black_box(request)));
-        let got = timed(&mut library, || ours.by_library(black_box(request)));
-        if got != due || ours.text != theirs.text || ours.rows != theirs.rows {
+    while start.elapsed() < TIME || by_library.len() < RUNS {
+        let due = timed(&mut by_model, || model(&mut theirs));
+        let got = timed(&mut by_library, || library(&mut ours));
+        if got != due || ours != theirs {
             return Err(format!("due {due:?}, got {got:?}"));
         }
     }
-    let runs = library.len();
-    Ok((median(library), median(model), runs))
+    let runs = by_library.len();
+    Ok((median(by_library), median(by_model), runs))
+}
+
+fn reply(answer: Answer) -> Reply {
+    Reply {
+        number: answer.number,
+        line: answer.line,
+        field: answer.field,
+        length: answer.length,
+    }
+}
+
+/// Reading a text into a table.
+fn race_read(text: &[u8]) -> Result<(f64, f64, usize), String> {
+    race(
+        || vec![usize::MAX; SHEET_CELLS],
+        |cells| library::read_sheet(black_box(text), cells),
+        |cells| reply(sheets::read_sheet(black_box(text), cells)),
+    )
+}
+
+/// Writing a table to a buffer that is just long enough.
+fn race_write(text: &[u8]) -> Result<(f64, f64, usize), String> {
+    let mut cells = vec![0; SHEET_CELLS];
+    sheets::read_sheet(text, &mut cells);
+    let cells = &cells[..];
+    race(
+        || vec![b'?'; text.len()],
+        |text| library::write_sheet(black_box(cells), text),
+        |text| reply(sheets::write_sheet(black_box(cells), text)),
+    )
 }
 
 /// How many lines the answer has, and how many of them are `taken`.
@@ -294,7 +374,12 @@ fn bench() -> Result<(), String> {
     let mut found = BTreeMap::new();
     for (name, request) in requests() {
         let request = request.as_bytes();
-        let (library, model, runs) = race(request).map_err(|what| format!("{name}: {what}"))?;
+        let raced = race(
+            Buffers::new,
+            |buffers| buffers.by_library(black_box(request)),
+            |buffers| buffers.by_model(black_box(request)),
+        );
+        let (library, model, runs) = raced.map_err(|what| format!("{name}: {what}"))?;
         found.insert(name, (library, model));
         let (bytes, (lines, taken)) = (request.len(), lines(request));
         let ratio = library / model;
@@ -306,7 +391,10 @@ fn bench() -> Result<(), String> {
         ("largest sheet, make", "no rows"),
         ("largest sheet, check", "a row twice"),
     ] {
-        let (library, model) = (found[whole].0 - found[read].0, found[whole].1 - found[read].1);
+        let (library, model) = (
+            found[whole].0 - found[read].0,
+            found[whole].1 - found[read].1,
+        );
         println!(
             "{whole}, without the reading: library {library:.1}, model {model:.1}, ratio {:.2}",
             library / model
@@ -321,6 +409,7 @@ fn bench() -> Result<(), String> {
         "clearing both buffers, which every answer does: {:.1}",
         median(times)
     );
+    bench_tables()?;
     // What the ratios mean, so that nobody reads too much into them.
     println!(
         "The model looks at each field once, and its time grows with the length of the request;"
@@ -332,18 +421,55 @@ fn bench() -> Result<(), String> {
     Ok(())
 }
 
+/// Sheets as tables; the largest ones are written in at most three times what reading them takes.
+fn bench_tables() -> Result<(), String> {
+    println!(
+        "{:24} {:>7} {:>10} {:>10} {:>7} {:>10} {:>10} {:>7} {:>13}",
+        "sheet", "bytes", "read", "model", "ratio", "write", "model", "ratio", "write / read"
+    );
+    let mut slow = Vec::new();
+    for (name, sheet) in sheets_to_write() {
+        let text = sheet.as_bytes();
+        let told = |what| format!("{name}: {what}");
+        let (read, model_read, _) = race_read(text).map_err(told)?;
+        let (write, model_write, _) = race_write(text).map_err(told)?;
+        let (bytes, times) = (text.len(), write / read);
+        println!(
+            "{name:24} {bytes:7} {read:10.1} {model_read:10.1} {:7.2} {write:10.1} {model_write:10.1} {:7.2} {times:13.2}",
+            read / model_read,
+            write / model_write
+        );
+        if times > WRITING && 2 * bytes > model::SHEET_BYTES {
+            slow.push(name);
+        }
+    }
+    if slow.is_empty() {
+        return Ok(());
+    }
+    let slow = slow.join(", ");
+    Err(format!(
+        "over {WRITING} times as long to write as to read: {slow}"
+    ))
+}
+
 // ---------------------------------------------------------------------------------------------
 // The stack
 // ---------------------------------------------------------------------------------------------
 
-/// Answers each request on a thread with a stack of so many KiB; the process dies if that is short.
+/// Answers each request on a thread with a stack of so many KiB, and reads and writes each sheet; the process
+/// dies if that is short.
 fn on_stack(kib: usize) -> bool {
     // The requests are made on the main thread: the model that helps to make them needs stack too.
-    let requests = requests();
+    let (requests, sheets) = (requests(), sheets_to_write());
     let run = move || {
         let mut buffers = Buffers::new();
         for (_, request) in &requests {
             black_box(buffers.by_library(request.as_bytes()));
+        }
+        let mut cells = vec![0; SHEET_CELLS];
+        for (_, sheet) in &sheets {
+            black_box(library::read_sheet(sheet.as_bytes(), &mut cells));
+            black_box(library::write_sheet(&cells, &mut buffers.text));
         }
     };
     let thread = std::thread::Builder::new().stack_size(kib << 10).spawn(run);
@@ -374,7 +500,7 @@ fn main() -> ExitCode {
         return ExitCode::from(u8::from(!enough));
     }
     if let Err(what) = bench() {
-        println!("the two differ: {what}");
+        println!("failed: {what}");
         return ExitCode::FAILURE;
     }
     match report_stack() {

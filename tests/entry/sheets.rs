@@ -92,6 +92,22 @@ fn shown(text: &[u8]) -> String {
     format!("{} bytes: {}", text.len(), text[..most].escape_ascii())
 }
 
+/// A difference in any one place is noticed.
+fn comparison_can_fail() -> Result<(), String> {
+    let mut memory = Memory::new(SHEET_CELLS, 7);
+    for place in [0, 1, SHEET_CELLS / 2, SHEET_CELLS - 1] {
+        memory.library[place] = 8;
+        if memory.difference() != Some(place) {
+            return Err(format!("an altered cell passes: {place}"));
+        }
+        memory.library[place] = 7;
+    }
+    match memory.difference() {
+        None => Ok(()),
+        Some(place) => Err(format!("a right cell fails: {place}")),
+    }
+}
+
 fn answer(reply: library::Reply) -> Answer {
     Answer {
         number: reply.number,
@@ -344,6 +360,7 @@ fn length_of(random: &mut Random, text: &[u8]) -> usize {
 
 /// So many sheets of a seed, the examples and the cases; how many calls were compared.
 pub fn run(seed: u64, count: usize, folder: &Path) -> Result<usize, String> {
+    comparison_can_fail()?;
     let mut test = Test::new(seed);
     let cases = test.cases();
     let too_long = vec![b'a'; model::REQUEST_BYTES + 1];

@@ -1,11 +1,13 @@
 // The checker's entry: any request and any lent buffers get one reply.
 use lent::Row;
 use lent::emit_rows;
+use loading::read_sheet;
 use plays::play_for;
 use reader::Request;
 use reader::read;
 use replies::Reply;
 use replies::refuse;
+use saving::write_sheet;
 use tables::Sheet;
 use texts::put_refused;
 use verdicts::check_for;
@@ -16,6 +18,9 @@ ghost use lib.ListN.{length, take, drop, replicate};
 ghost use Rattle.reader.specs.Request.{readRequest};
 ghost use Rattle.texts.specs.Wrote.{Wrote};
 ghost use Rattle.replies.specs.Answer.{Gives, replyOf, numbersOf, bytesOf, leastText};
+ghost use Rattle.loading.specs.Loading.{loading, replyTo, cellsOf};
+ghost use Rattle.saving.specs.Saving as saved;
+ghost use Rattle.saving.specs.Saving.{saving};
 ghost use Rattle.checker.specs.Entry.{judged, early, answerTo, placesOf, refusedIn, textIn};
 
 // The longest request, and the fewest rows that must be lent.
@@ -133,4 +138,22 @@ pub extern "C" fn hurkoxel_refused_line(
     ensures { λ r. ⌜ Wrote (now (text .entry)) 0 (refusedIn (length (now (text .entry))) number line field) (now (text .exit)) r ⌝ }
 {
     refused_line(number, line, field, text)
+}
+
+// A text of line 1 and `def` lines, read into a table.
+#[no_mangle]
+pub extern "C" fn hurkoxel_read_sheet(text: &[u8], cells: &mut [usize]) -> Reply
+    ensures { λ r. ⌜ r ≡ replyTo (now (text .entry)) (loading (now (text .entry)) (length (now (cells .entry)))) ⌝ }
+    ensures { λ r. ⌜ now (cells .exit) ≡ cellsOf (length (now (cells .entry))) (loading (now (text .entry)) (length (now (cells .entry)))) ⌝ }
+{
+    read_sheet(text, cells)
+}
+
+// The text of a table's sheet.
+#[no_mangle]
+pub extern "C" fn hurkoxel_write_sheet(cells: &[usize], text: &mut [u8]) -> Reply
+    ensures { λ r. ⌜ r ≡ saved.replyOf (saving (now (cells .entry)) (length (now (text .entry)))) ⌝ }
+    ensures { λ r. ⌜ now (text .exit) ≡ saved.bytesOf (now (text .entry)) (saving (now (cells .entry)) (length (now (text .entry)))) ⌝ }
+{
+    write_sheet(cells, text)
 }

@@ -8,6 +8,7 @@ use lib.Seq.{length-take-le, getD-take, take-take, take-add, take-at, drop-at, t
 use Rattle.tables.specs.Entries.{Entries, firstOf, nodeIn, branchIn, defIn, listedIn, cellIn, held, people, tableLong}
 use Rattle.tables.proofs.Laws.{firstOf-length}
 use Rattle.reader.specs.Promises.{Sizes}
+use Rattle.reader.proofs.Sizes.{sizes-within}
 use Rattle.exits.specs.Made.{filled}
 use Rattle.exits.proofs.Buffer.{filled-none}
 use Rattle.loading.proofs.Sections.{Section, flat-long, part-is, holds, nodes-section, branches-section, defs-section, numbers-part, numbers-held}
@@ -143,25 +144,6 @@ zeros-put t from to h k ys e =
     (drop-drop (to - from) from t ∙ ap (λ i. drop i t) m)
     ∙ sym (append-assoc (take from t) (replicate (to - from) 0) (drop to t))
 
--- how much is held of each section, by the header
-pub record Counted (t : List ℕ) : Type 0 where
-  pub nodes : getD t 2 0 ≤ 512
-  pub branches : getD t 3 0 ≤ 1024
-  pub defs : getD t 1 0 ≤ 32
-  pub listed : getD t 4 0 ≤ 8960
-  pub cells : getD t 5 0 ≤ 32768
-
-pub counted : (t : List ℕ) → Sizes (people t) (held t) → Counted t
-unfolding held
-counted t z =
-    record {
-      nodes = omega (arith, z .nodes, firstOf-length (nodeIn t) (getD t 2 0));
-      branches = omega (arith, z .branches, firstOf-length (branchIn t) (getD t 3 0));
-      defs = omega (arith, z .defs .1, firstOf-length (defIn t) (getD t 1 0));
-      listed = omega (arith, z .listed, firstOf-length (listedIn t) (getD t 4 0));
-      cells = omega (arith, z .cells, firstOf-length (cellIn t) (getD t 5 0));
-    }
-
 header-is : (t : List ℕ) → firstOf (λ i. getD t (0 + i) 0) 6 ≡ headerCells (people t) (held t)
 unfolding held headerCells firstOf
 header-is t =
@@ -180,7 +162,7 @@ module _ (u : List ℕ) (long : tableLong ≤ length u) (z : Sizes (people u) (h
       → v₆ ≡ zeros 6 8 v₅ → v₆ ≡ tableOf (length u) (people u) (held u)
   unfolding held
   cleared-is v₁ v₂ v₃ v₄ v₅ v₆ w₁ w₂ w₃ w₄ w₅ w₆ =
-      let c = counted u z in
+      let c = sizes-within u z in
       let e₀ = sym (append-nil (take (length u) u) ∙ take-length u) in
       let e₁ = w₁ ∙ numbers-zeros u u [] 19304 (getD u 5 0) (length u) e₀ (omega (arith, c .cells)) (omega arith) in
       let e₂ = w₂ ∙ numbers-zeros u v₁ _ 10344 (getD u 4 0) 19304 e₁ (omega (arith, c .listed)) (omega arith) in

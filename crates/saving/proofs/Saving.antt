@@ -4,23 +4,23 @@ use mathlib.Core.Path.{_≡_, refl, sym, ap, ap₂, _∙_}
 use mathlib.Core.Bool.{Bool, true, false, cond}
 use mathlib.Core.List.{List, [], _++_}
 use native.Mathlib.Omega.{arith}
-use lib.ListN.{length, getD, drop, take-append-drop}
+use lib.ListN.{length, drop, take-append-drop}
 use lib.Dec.{eqb, leb}
 use borrow.Author.Tests.{eq-eqb, ne-eqb, leb-true, leb-false, le-leb, lt-leb}
 use Rattle.bitml.specs.Lists.{_&_}
 use Rattle.bitml.proofs.Lists.{and-false, and-true, and-no}
 use Rattle.fields.specs.declared.Got.{Got}
 use Rattle.fields.specs.declared.Got.the-variants.{Value, Bad}
-use Rattle.tables.specs.Entries.{Entries, held, people, tableLong, nodeIn, branchIn, defIn, listedIn, cellIn}
-use Rattle.tables.proofs.Laws.{firstOf-length}
+use Rattle.tables.specs.Entries.{Entries, held, people, tableLong, Within}
 use Rattle.lines.specs.Sheet.{readSheet, answered, whenAccepted}
-use Rattle.reader.specs.Promises.{Sizes}
+use Rattle.reader.proofs.Sizes.{sizes-within}
 use Rattle.texts.specs.Text.{line}
 use Rattle.texts.specs.Wrote.{Wrote}
 use Rattle.replies.specs.declared.Reply.{Reply}
 use Rattle.writing.specs.Written.{sheetText}
 use Rattle.writing.specs.Writable.{sameEntries, readAs, writable, written}
-use Rattle.writing.specs.Putting.{Within, short}
+use Rattle.writing.specs.Putting.{short}
+use Rattle.writing.proofs.Whole.{short-same, short-none}
 use Rattle.writing.proofs.Claims.{written-yes, written-no, not-writable, not-sized}
 use Rattle.saving.specs.Comparing.{sameSheet}
 use Rattle.saving.specs.Saving.{Saved, saved, refused, fitted, saving, replyOf, bytesOf}
@@ -28,36 +28,17 @@ use Rattle.saving.specs.Saving.{Saved, saved, refused, fitted, saving, r
 -- ---- counts past their sections
 
 pub not-within : (t : List ℕ) → (Within t → ⊥) → writable (people t) (held t) ≡ false
-unfolding held
-not-within t h = not-sized (people t) (held t) λ z. h (fits z)
-  where
-    fits : Sizes (people t) (held t) → Within t
-    fits z =
-        record {
-          defs = omega (arith, z .defs .1, firstOf-length (defIn t) (getD t 1 0));
-          nodes = omega (arith, z .nodes, firstOf-length (nodeIn t) (getD t 2 0));
-          branches = omega (arith, z .branches, firstOf-length (branchIn t) (getD t 3 0));
-          listed = omega (arith, z .listed, firstOf-length (listedIn t) (getD t 4 0));
-          cells = omega (arith, z .cells, firstOf-length (cellIn t) (getD t 5 0));
-        }
+not-within t h = not-sized (people t) (held t) λ z. h (sizes-within t z)
 
 -- ---- the text that was put, and reading it
 
 module _ (xs : List ℕ) where
-  short-whole : leb (length xs) 32768 ≡ true → short xs ≡ xs
-  unfolding short
-  short-whole h = rw h
-
-  short-none : leb (length xs) 32768 ≡ false → short xs ≡ []
-  unfolding short
-  short-none h = rw h
-
   pub short-few : length (short xs) ≤ 32768
   short-few = go (leb (length xs) 32768) refl
     where
       go : (b : Bool) → leb (length xs) 32768 ≡ b → length (short xs) ≤ 32768
-      go true h = rw (short-whole h) (leb-true (length xs) 32768 h)
-      go false h = rw (short-none h) (omega arith)
+      go true h = rw (short-same xs (leb-true _ _ h)) (leb-true (length xs) 32768 h)
+      go false h = rw (short-none xs (leb-false _ _ h)) (omega arith)
 
 sheet-some : (K : ℕ) (E : Entries) → 1 ≤ length (sheetText K E)
 unfolding sheetText line
@@ -69,7 +50,7 @@ module _ (K : ℕ) (E : Entries) (m : ℕ) (e : m ≡ length (short (sheetText K
   nothing-put z = go (leb (length (sheetText K E)) 32768) refl
     where
       go : (b : Bool) → leb (length (sheetText K E)) 32768 ≡ b → writable K E ≡ false
-      go true h = let n = ap (λ xs. length xs) (short-whole (sheetText K E) h) in absurd (omega (arith, n, sheet-some K E))
+      go true h = let n = ap (λ xs. length xs) (short-same (sheetText K E) (leb-true _ _ h)) in absurd (omega (arith, n, sheet-some K E))
       go false h = not-writable K E (leb-false _ _ h)
 
   -- all of it
@@ -77,8 +58,8 @@ module _ (K : ℕ) (E : Entries) (m : ℕ) (e : m ≡ length (short (sheetText K
   all-put z = go (leb (length (sheetText K E)) 32768) refl
     where
       go : (b : Bool) → leb (length (sheetText K E)) 32768 ≡ b → short (sheetText K E) ≡ sheetText K E
-      go true h = short-whole (sheetText K E) h
-      go false h = absurd (z (e ∙ ap (λ xs. length xs) (short-none (sheetText K E) h)))
+      go true h = short-same (sheetText K E) (leb-true _ _ h)
+      go false h = absurd (z (e ∙ ap (λ xs. length xs) (short-none (sheetText K E) (leb-false _ _ h))))
 
   pub put-long : (m ≡ 0 → ⊥) → m ≡ length (sheetText K E)
   put-long z = e ∙ ap (λ xs. length xs) (all-put z)

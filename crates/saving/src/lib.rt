@@ -11,10 +11,9 @@ ghost use mathlib.Core.Path.{_≡_};
 ghost use mathlib.Core.Bool.{true, false};
 ghost use Prim.Native.Nat.{_+_, _≤_};
 ghost use lib.ListN.{length};
-ghost use Rattle.tables.specs.Entries.{held, people, tableLong};
+ghost use Rattle.tables.specs.Entries.{held, people, tableLong, Within};
 ghost use Rattle.lines.specs.Sheet.{readSheet};
 ghost use Rattle.writing.specs.Writable.{readAs};
-ghost use Rattle.writing.specs.Putting.{Within};
 ghost use Rattle.saving.specs.Comparing.{sameCells, sameSheet};
 ghost use Rattle.saving.specs.Saving.{saving, replyOf, bytesOf};
 

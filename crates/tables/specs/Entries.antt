@@ -1,5 +1,5 @@
 -- A sheet as the reader holds it: entries in the order of the text, and where their numbers stand in the table. Assumes nothing.
-use Prim.Native.Nat.{ℕ, zero, suc, _+_, _*_}
+use Prim.Native.Nat.{ℕ, zero, suc, _+_, _*_, _≤_}
 use mathlib.Core.List.{List, [], _∷_, _++_}
 use lib.ListN.{getD}
 
@@ -94,3 +94,11 @@ held t = entriesOf (getD t 2 0) (getD t 3 0) (getD t 1 0) (getD t 4 0) (getD t 5
 
 abbrev pub people : List ℕ → ℕ
 people t = getD t 0 0
+
+-- what the header counts lies within its section
+pub record Within (t : List ℕ) : Type 0 where
+  pub defs : getD t 1 0 ≤ 32
+  pub nodes : getD t 2 0 ≤ 512
+  pub branches : getD t 3 0 ≤ 1024
+  pub listed : getD t 4 0 ≤ 8960
+  pub cells : getD t 5 0 ≤ 32768

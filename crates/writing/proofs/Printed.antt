@@ -158,8 +158,7 @@ module _ (E : Entries) where
 
     split-prints : (n : ℕ) → Prints (splitText E f n)
     unfolding splitText _&_
-    split-prints n =
-        prints-then (prints-say (spelled-printed (word "s") refl)) (prints-then (prints-field n) (prints-then branch-done (prints-repeat n part-prints)))
+    split-prints n = prints-then (leaf-prints n (spelled-printed (word "s") refl)) (prints-repeat n part-prints)
 
     reveal-prints : (n : ℕ) → Prints (revealText E f n)
     unfolding revealText _&_

@@ -3,23 +3,16 @@ use Prim.Native.Nat.{ℕ, _+_, _≤_, _<_}
 use mathlib.Core.Path.{_≡_}
 use mathlib.Core.Bool.{cond}
 use mathlib.Core.List.{List, []}
-use lib.ListN.{length, getD}
+use lib.ListN.{length}
 use lib.Dec.{leb, ltb}
-use Rattle.tables.specs.Entries.{tableLong}
+use Rattle.tables.specs.Entries.{tableLong, Within}
 use Rattle.texts.specs.Wrote.{Wrote}
 use Rattle.writing.specs.Written.{Place}
 use Rattle.writing.specs.declared.Pen.{Pen}
 use Rattle.writing.specs.declared.Put.{Put}
 use Rattle.writing.specs.declared.Put.the-variants.{On, Full}
 
--- What the header counts lies within its section
-pub record Within (t : List ℕ) : Type 0 where
-  pub defs : getD t 1 0 ≤ 32
-  pub nodes : getD t 2 0 ≤ 512
-  pub branches : getD t 3 0 ≤ 1024
-  pub listed : getD t 4 0 ≤ 8960
-  pub cells : getD t 5 0 ≤ 32768
-
+-- A table of any contents whose counts lie within its sections
 abbrev pub Whole : List ℕ → Type 0
 Whole t = (tableLong ≤ length t) × Within t
 

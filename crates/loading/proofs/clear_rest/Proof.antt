@@ -1,5 +1,6 @@
 use native.Mathlib.Omega.{arith}
-use Rattle.loading.proofs.Table.{counted, cleared-is}
+use Rattle.reader.proofs.Sizes.{sizes-within}
+use Rattle.loading.proofs.Table.{cleared-is}
 use borrow.Author.Needs.{needs}
 use Rattle.loading.proofs.clear_rest.Statement.{statement}
 use Rattle.loading.proofs.clear_rest.Tie as tie
@@ -20,43 +21,43 @@ slice-read-cells : tie.Need-slice-read-cells
 slice-read-cells c = search needs
 
 add-clear-part : tie.Need-add-clear-part
-add-clear-part c = record { fits = omega (arith, counted (c .before .before .before .before .before .before .before .args .t .now) (c .before .before .before .before .before .before .before .pre .1) .cells) }
+add-clear-part c = record { fits = omega (arith, sizes-within (c .before .before .before .before .before .before .before .args .t .now) (c .before .before .before .before .before .before .before .pre .1) .cells) }
 
 clear-part-requires : tie.Need-clear-part-requires
-clear-part-requires c κs = (omega (arith, counted (c .before .before .before .before .before .before .before .args .t .now) (c .before .before .before .before .before .before .before .pre .1) .cells, c .before .before .before .before .before .before .before .pre .0), omega arith)
+clear-part-requires c κs = (omega (arith, sizes-within (c .before .before .before .before .before .before .before .args .t .now) (c .before .before .before .before .before .before .before .pre .1) .cells, c .before .before .before .before .before .before .before .pre .0), omega arith)
 
 add-clear-part-2 : tie.Need-add-clear-part-2
-add-clear-part-2 c = record { fits = omega (arith, counted (c .before .before .before .before .before .before .before .before .before .before .before .args .t .now) (c .before .before .before .before .before .before .before .before .before .before .before .pre .1) .listed) }
+add-clear-part-2 c = record { fits = omega (arith, sizes-within (c .before .before .before .before .before .before .before .before .before .before .before .args .t .now) (c .before .before .before .before .before .before .before .before .before .before .before .pre .1) .listed) }
 
 clear-part-requires-2 : tie.Need-clear-part-requires-2
-clear-part-requires-2 c κs = (omega (arith, counted (c .before .before .before .before .before .before .before .before .before .before .before .args .t .now) (c .before .before .before .before .before .before .before .before .before .before .before .pre .1) .listed), omega arith)
+clear-part-requires-2 c κs = (omega (arith, sizes-within (c .before .before .before .before .before .before .before .before .before .before .before .args .t .now) (c .before .before .before .before .before .before .before .before .before .before .before .pre .1) .listed), omega arith)
 
 mul-clear-part : tie.Need-mul-clear-part
-mul-clear-part c = record { fits = omega (arith, counted (c .before .before .before .before .before .before .before .before .before .before .before .before .before .before .before .args .t .now) (c .before .before .before .before .before .before .before .before .before .before .before .before .before .before .before .pre .1) .defs) }
+mul-clear-part c = record { fits = omega (arith, sizes-within (c .before .before .before .before .before .before .before .before .before .before .before .before .before .before .before .args .t .now) (c .before .before .before .before .before .before .before .before .before .before .before .before .before .before .before .pre .1) .defs) }
 
 add-clear-part-3 : tie.Need-add-clear-part-3
-add-clear-part-3 c = record { fits = omega (arith, counted (c .before .before .before .before .before .before .before .before .before .before .before .before .before .before .before .args .t .now) (c .before .before .before .before .before .before .before .before .before .before .before .before .before .before .before .pre .1) .defs) }
+add-clear-part-3 c = record { fits = omega (arith, sizes-within (c .before .before .before .before .before .before .before .before .before .before .before .before .before .before .before .args .t .now) (c .before .before .before .before .before .before .before .before .before .before .before .before .before .before .before .pre .1) .defs) }
 
 clear-part-requires-3 : tie.Need-clear-part-requires-3
-clear-part-requires-3 c κs = (omega (arith, counted (c .before .before .before .before .before .before .before .before .before .before .before .before .before .before .before .args .t .now) (c .before .before .before .before .before .before .before .before .before .before .before .before .before .before .before .pre .1) .defs), omega arith)
+clear-part-requires-3 c κs = (omega (arith, sizes-within (c .before .before .before .before .before .before .before .before .before .before .before .before .before .before .before .args .t .now) (c .before .before .before .before .before .before .before .before .before .before .before .before .before .before .before .pre .1) .defs), omega arith)
 
 mul-clear-part-2 : tie.Need-mul-clear-part-2
-mul-clear-part-2 c = record { fits = omega (arith, counted (c .before .before .before .before .before .before .before .before .before .before .before .before .before .before .before .before .before .before .before .args .t .now) (c .before .before .before .before .before .before .before .before .before .before .before .before .before .before .before .before .before .before .before .pre .1) .branches) }
+mul-clear-part-2 c = record { fits = omega (arith, sizes-within (c .before .before .before .before .before .before .before .before .before .before .before .before .before .before .before .before .before .before .before .args .t .now) (c .before .before .before .before .before .before .before .before .before .before .before .before .before .before .before .before .before .before .before .pre .1) .branches) }
 
 add-clear-part-4 : tie.Need-add-clear-part-4
-add-clear-part-4 c = record { fits = omega (arith, counted (c .before .before .before .before .before .before .before .before .before .before .before .before .before .before .before .before .before .before .before .args .t .now) (c .before .before .before .before .before .before .before .before .before .before .before .before .before .before .before .before .before .before .before .pre .1) .branches) }
+add-clear-part-4 c = record { fits = omega (arith, sizes-within (c .before .before .before .before .before .before .before .before .before .before .before .before .before .before .before .before .before .before .before .args .t .now) (c .before .before .before .before .before .before .before .before .before .before .before .before .before .before .before .before .before .before .before .pre .1) .branches) }
 
 clear-part-requires-4 : tie.Need-clear-part-requires-4
-clear-part-requires-4 c κs = (omega (arith, counted (c .before .before .before .before .before .before .before .before .before .before .before .before .before .before .before .before .before .before .before .args .t .now) (c .before .before .before .before .before .before .before .before .before .before .before .before .before .before .before .before .before .before .before .pre .1) .branches), omega arith)
+clear-part-requires-4 c κs = (omega (arith, sizes-within (c .before .before .before .before .before .before .before .before .before .before .before .before .before .before .before .before .before .before .before .args .t .now) (c .before .before .before .before .before .before .before .before .before .before .before .before .before .before .before .before .before .before .before .pre .1) .branches), omega arith)
 
 mul-clear-part-3 : tie.Need-mul-clear-part-3
-mul-clear-part-3 c = record { fits = omega (arith, counted (c .before .before .before .before .before .before .before .before .before .before .before .before .before .before .before .before .before .before .before .before .before .before .before .args .t .now) (c .before .before .before .before .before .before .before .before .before .before .before .before .before .before .before .before .before .before .before .before .before .before .before .pre .1) .nodes) }
+mul-clear-part-3 c = record { fits = omega (arith, sizes-within (c .before .before .before .before .before .before .before .before .before .before .before .before .before .before .before .before .before .before .before .before .before .before .before .args .t .now) (c .before .before .before .before .before .before .before .before .before .before .before .before .before .before .before .before .before .before .before .before .before .before .before .pre .1) .nodes) }
 
 add-clear-part-5 : tie.Need-add-clear-part-5
-add-clear-part-5 c = record { fits = omega (arith, counted (c .before .before .before .before .before .before .before .before .before .before .before .before .before .before .before .before .before .before .before .before .before .before .before .args .t .now) (c .before .before .before .before .before .before .before .before .before .before .before .before .before .before .before .before .before .before .before .before .before .before .before .pre .1) .nodes) }
+add-clear-part-5 c = record { fits = omega (arith, sizes-within (c .before .before .before .before .before .before .before .before .before .before .before .before .before .before .before .before .before .before .before .before .before .before .before .args .t .now) (c .before .before .before .before .before .before .before .before .before .before .before .before .before .before .before .before .before .before .before .before .before .before .before .pre .1) .nodes) }
 
 clear-part-requires-5 : tie.Need-clear-part-requires-5
-clear-part-requires-5 c κs = (omega (arith, counted (c .before .before .before .before .before .before .before .before .before .before .before .before .before .before .before .before .before .before .before .before .before .before .before .args .t .now) (c .before .before .before .before .before .before .before .before .before .before .before .before .before .before .before .before .before .before .before .before .before .before .before .pre .1) .nodes), omega arith)
+clear-part-requires-5 c κs = (omega (arith, sizes-within (c .before .before .before .before .before .before .before .before .before .before .before .before .before .before .before .before .before .before .before .before .before .before .before .args .t .now) (c .before .before .before .before .before .before .before .before .before .before .before .before .before .before .before .before .before .before .before .before .before .before .before .pre .1) .nodes), omega arith)
 
 add-clear-part-6 : tie.Need-add-clear-part-6
 add-clear-part-6 c = search needs

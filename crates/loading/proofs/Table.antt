@@ -76,7 +76,7 @@ module _ (K : ℕ) (E : Entries) (z : Sizes K E) where
         padded-long 32768 (E .cells) (z .cells),
       )
 
-  table-long : (n : ℕ) → tableLong ≤ n → length (tableOf n K E) ≡ n
+  pub table-long : (n : ℕ) → tableLong ≤ n → length (tableOf n K E) ≡ n
   unfolding tableOf
   table-long n h = padded-long n (sectionCells K E) (omega (arith, sections-long))
 

@@ -1,7 +1,8 @@
 -- How the reply of writing comes from what its steps give. Assumes nothing.
 use Prim.Native.Nat.{ℕ, _≤_, _<_}
 use mathlib.Core.Path.{_≡_, refl, sym, ap, ap₂, _∙_}
-use mathlib.Core.Bool.{Bool, true, false, cond}
+use mathlib.Core.Bool.{Bool, true, false}
+use mathlib.Core.Option.{some}
 use mathlib.Core.List.{List, [], _++_}
 use native.Mathlib.Omega.{arith}
 use lib.ListN.{length, drop, take-append-drop}
@@ -89,13 +90,21 @@ module _ (s u t : List ℕ) (g : Got) (h : (answered g u ≡ readSheet s) × whe
 
 -- ---- the reply
 
+pub fits : (n : ℕ) (xs : List ℕ) → length xs ≤ n → fitted n (some xs) ≡ saved xs
+unfolding fitted
+fits n xs h = rw (le-leb (length xs) n h)
+
+pub fits-not : (n : ℕ) (xs : List ℕ) → n < length xs → fitted n (some xs) ≡ refused 20
+unfolding fitted
+fits-not n xs h = rw (lt-leb (length xs) n h)
+
 module _ (t : List ℕ) (n : ℕ) where
   pub few-cells : length t < tableLong → saving t n ≡ refused 3
   unfolding saving
   few-cells l = let z : leb tableLong (length t) ≡ false = lt-leb tableLong (length t) l in rw z
 
   module _ (l : tableLong ≤ length t) where
-    is-fitted : saving t n ≡ fitted n (written (people t) (held t))
+    pub is-fitted : saving t n ≡ fitted n (written (people t) (held t))
     unfolding saving
     is-fitted = let z : leb tableLong (length t) ≡ true = le-leb tableLong (length t) l in rw z
 
@@ -104,16 +113,10 @@ module _ (t : List ℕ) (n : ℕ) where
     unwritten h = is-fitted ∙ ap (fitted n) (written-no (people t) (held t) h)
 
     pub no-room : writable (people t) (held t) ≡ true → n < length (sheetText (people t) (held t)) → saving t n ≡ refused 20
-    unfolding fitted
-    no-room h k =
-        let z : leb (length (sheetText (people t) (held t))) n ≡ false = lt-leb _ n k in
-        is-fitted ∙ ap (fitted n) (written-yes (people t) (held t) h) ∙ ap (λ b. cond b (saved (sheetText (people t) (held t))) (refused 20)) z
+    no-room h k = is-fitted ∙ ap (fitted n) (written-yes (people t) (held t) h) ∙ fits-not n (sheetText (people t) (held t)) k
 
     pub with-room : writable (people t) (held t) ≡ true → length (sheetText (people t) (held t)) ≤ n → saving t n ≡ saved (sheetText (people t) (held t))
-    unfolding fitted
-    with-room h k =
-        let z : leb (length (sheetText (people t) (held t))) n ≡ true = le-leb _ n k in
-        is-fitted ∙ ap (fitted n) (written-yes (people t) (held t) h) ∙ ap (λ b. cond b (saved (sheetText (people t) (held t))) (refused 20)) z
+    with-room h k = is-fitted ∙ ap (fitted n) (written-yes (people t) (held t) h) ∙ fits n (sheetText (people t) (held t)) k
 
 -- a refusal leaves the buffer as it is
 pub refuses : (u : List ℕ) {s : Saved} {r : Reply} {k : ℕ} → s ≡ refused k → r ≡ record { number = k; line = 0; field = 0; length = 0 } → (r ≡ replyOf s) × (u ≡ bytesOf u s)

@@ -1,6 +1,6 @@
 -- Entry i of what a table holds, from the table's own numbers; zeros where there is none. Assumes nothing.
 use Prim.Native.Nat.{ℕ, _≤_, _<_}
-use mathlib.Core.Path.{_≡_, sym}
+use mathlib.Core.Path.{_≡_}
 use mathlib.Core.List.{List}
 use lib.ListN.{getD}
 use Rattle.tables.specs.Entries.{nodeIn, branchIn, defIn, listedIn, cellIn, held}

@@ -12,7 +12,7 @@ ghost use Rattle.tables.specs.Entries.{held, people, tableLong, Within};
 ghost use Rattle.tables.specs.SheetOf.{nodeEntryAt, branchEntryAt, defEntryAt, listedAt, cellAt};
 ghost use Rattle.texts.specs.Text.{field};
 ghost use Rattle.writing.specs.Written.{say, _then_, repeat, conditionWord, expressionWord, numberText, listedText, expressionText, conditionText, leafText, splitText, revealText, branchText, contractText, defText, sheetText};
-ghost use Rattle.writing.specs.Putting.{Whole, due, nodeOn, branchOn, defOn, listedOn, cellOn, Small, Room, Puts, stood, short};
+ghost use Rattle.writing.specs.Putting.{Whole, due, nodeOn, branchOn, defOn, listedOn, cellOn, Room, Puts, stood, short};
 
 // How long a buffer must be: one field more than a sheet has bytes.
 pub const BUFFER: usize = Sheet::BYTES + 32;

@@ -98,10 +98,14 @@ abbrev put-branch-callees : ℕ → put-branch-lts.Claims
 put-branch-callees t = (branch-of-reads.Asked, branch-of-reads.Learnt, put-field-reads.Asked, put-field-reads.Learnt, put-leaf-reads.Asked, put-leaf-reads.Learnt, put-split-below t, put-split.Post, put-reveal-below t, put-reveal.Post)
 
 put-branch-branch-of-requires : (t : ℕ) → put-branch-lts.Need-branch-of-requires (put-branch-callees t) (put-branch-at t) put-branch.Post
-put-branch-branch-of-requires t c κs = c .before .before .pre .1 .0
+put-branch-branch-of-requires t c κs =
+    let c2 = c .before .before in
+    c2 .pre .1 .0
 
 put-branch-put-field-requires : (t : ℕ) → put-branch-lts.Need-put-field-requires (put-branch-callees t) (put-branch-at t) put-branch.Post
-put-branch-put-field-requires t c κs = c .before .before .before .before .pre .1 .1
+put-branch-put-field-requires t c κs =
+    let c4 = c .before .before .before .before in
+    c4 .pre .1 .1
 
 put-branch-enum-known-g : (t : ℕ) → put-branch-lts.Need-enum-known-g (put-branch-callees t) (put-branch-at t) put-branch.Post
 put-branch-enum-known-g t c = search needs
@@ -110,13 +114,19 @@ put-branch-enum-told : (t : ℕ) → put-branch-lts.Need-enum-told (put-branch-c
 put-branch-enum-told t c = search needs
 
 put-branch-same-length : (t : ℕ) → put-branch-lts.Need-same-length (put-branch-callees t) (put-branch-at t) put-branch.Post
-put-branch-same-length t c = long-on _ (c .before .before .before .before .put-field .ensures)
+put-branch-same-length t c =
+    let c4 = c .before .before .before .before in
+    long-on _ (c4 .put-field .ensures)
 
 put-branch-returns : (t : ℕ) → put-branch-lts.Need-returns (put-branch-callees t) (put-branch-at t) put-branch.Post
-put-branch-returns t c = branch-by _ _ _ _ _ _ (c .before .before .before .before .before .before .branch-of .ensures .0) (c .before .before .before .before .before .before .branch-of .ensures .1) refl (full-then _ _ _ (c .before .before .before .before .put-field .ensures) (c .enum-told .given .1))
+put-branch-returns t c =
+    let c4 = c .before .before .before .before in let c6 = c4 .before .before in
+    branch-by _ _ _ _ _ _ (c6 .branch-of .ensures .0) (c6 .branch-of .ensures .1) refl (full-then _ _ _ (c4 .put-field .ensures) (c .enum-told .given .1))
 
 put-branch-put-field-requires-2 : (t : ℕ) → put-branch-lts.Need-put-field-requires-2 (put-branch-callees t) (put-branch-at t) put-branch.Post
-put-branch-put-field-requires-2 t c κs = room-on _ (c .before .before .before .before .before .before .before .before .before .before .before .pre .1 .1 .long) (c .before .before .before .before .before .before .put-field .ensures) (c .before .before .g .given .1)
+put-branch-put-field-requires-2 t c κs =
+    let c2 = c .before .before in let c6 = c2 .before .before .before .before in let c11 = c6 .before .before .before .before .before in
+    room-on _ (c11 .pre .1 .1 .long) (c6 .put-field .ensures) (c2 .g .given .1)
 
 put-branch-enum-known-h : (t : ℕ) → put-branch-lts.Need-enum-known-h (put-branch-callees t) (put-branch-at t) put-branch.Post
 put-branch-enum-known-h t c = search needs
@@ -125,52 +135,80 @@ put-branch-enum-told-2 : (t : ℕ) → put-branch-lts.Need-enum-told-2 (put-bran
 put-branch-enum-told-2 t c = search needs
 
 put-branch-same-length-2 : (t : ℕ) → put-branch-lts.Need-same-length-2 (put-branch-callees t) (put-branch-at t) put-branch.Post
-put-branch-same-length-2 t c = long-on _ (c .before .before .before .before .put-field2 .ensures) ∙ long-on _ (c .before .before .before .before .before .before .before .before .before .before .before .put-field .ensures)
+put-branch-same-length-2 t c =
+    let c4 = c .before .before .before .before in let c11 = c4 .before .before .before .before .before .before .before in
+    long-on _ (c4 .put-field2 .ensures) ∙ long-on _ (c11 .put-field .ensures)
 
 put-branch-returns-2 : (t : ℕ) → put-branch-lts.Need-returns-2 (put-branch-callees t) (put-branch-at t) put-branch.Post
-put-branch-returns-2 t c = branch-by _ _ _ _ _ _ (c .before .before .before .before .before .before .before .before .before .before .before .before .before .branch-of .ensures .0) (c .before .before .before .before .before .before .before .before .before .before .before .before .before .branch-of .ensures .1) refl (on-then _ _ _ _ (c .before .before .before .before .before .before .before .before .before .before .before .put-field .ensures) (c .before .before .before .before .before .before .before .g .given .1) (full-then _ _ _ (c .before .before .before .before .put-field2 .ensures) (c .enum-told2 .given .1)))
+put-branch-returns-2 t c =
+    let c4 = c .before .before .before .before in let c7 = c4 .before .before .before in let c11 = c7 .before .before .before .before in let c13 = c11 .before .before in
+    branch-by _ _ _ _ _ _ (c13 .branch-of .ensures .0) (c13 .branch-of .ensures .1) refl (on-then _ _ _ _ (c11 .put-field .ensures) (c7 .g .given .1) (full-then _ _ _ (c4 .put-field2 .ensures) (c .enum-told2 .given .1)))
 
 put-branch-slice-aggregate-put-leaf : (t : ℕ) → put-branch-lts.Need-slice-aggregate-put-leaf (put-branch-callees t) (put-branch-at t) put-branch.Post
 put-branch-slice-aggregate-put-leaf t c = search needs
 
 put-branch-put-leaf-requires : (t : ℕ) → put-branch-lts.Need-put-leaf-requires (put-branch-callees t) (put-branch-at t) put-branch.Post
-put-branch-put-leaf-requires t c κs = (room-on _ (omega (arith, c .before .before .before .before .before .before .before .before .before .before .before .before .before .before .before .before .before .before .before .before .pre .1 .1 .long, long-on _ (c .before .before .before .before .before .before .before .before .before .before .before .before .before .before .before .put-field .ensures))) (c .before .before .before .before .before .before .before .before .put-field2 .ensures) (c .before .before .before .before .h .given .1), omega arith)
+put-branch-put-leaf-requires t c κs =
+    let c4 = c .before .before .before .before in let c8 = c4 .before .before .before .before in let c15 = c8 .before .before .before .before .before .before .before in let c20 = c15 .before .before .before .before .before in
+    (room-on _ (omega (arith, c20 .pre .1 .1 .long, long-on _ (c15 .put-field .ensures))) (c8 .put-field2 .ensures) (c4 .h .given .1), omega arith)
 
 put-branch-put-split-requires : (t : ℕ) → put-branch-lts.Need-put-split-requires (put-branch-callees t) (put-branch-at t) put-branch.Post
-put-branch-put-split-requires t c κs = (omega (arith, c .before .before .before .before .before .before .before .before .before .before .before .before .before .before .before .before .before .before .before .pre .0), (c .before .before .before .before .before .before .before .before .before .before .before .before .before .before .before .before .before .before .before .pre .1 .0, room-on _ (omega (arith, c .before .before .before .before .before .before .before .before .before .before .before .before .before .before .before .before .before .before .before .pre .1 .1 .long, long-on _ (c .before .before .before .before .before .before .before .before .before .before .before .before .before .before .put-field .ensures))) (c .before .before .before .before .before .before .before .put-field2 .ensures) (c .before .before .before .h .given .1)))
+put-branch-put-split-requires t c κs =
+    let c3 = c .before .before .before in let c7 = c3 .before .before .before .before in let c14 = c7 .before .before .before .before .before .before .before in let c19 = c14 .before .before .before .before .before in
+    (omega (arith, c19 .pre .0), (c19 .pre .1 .0, room-on _ (omega (arith, c19 .pre .1 .1 .long, long-on _ (c14 .put-field .ensures))) (c7 .put-field2 .ensures) (c3 .h .given .1)))
 
 put-branch-put-reveal-requires : (t : ℕ) → put-branch-lts.Need-put-reveal-requires (put-branch-callees t) (put-branch-at t) put-branch.Post
-put-branch-put-reveal-requires t c κs = (omega (arith, c .before .before .before .before .before .before .before .before .before .before .before .before .before .before .before .before .before .before .before .pre .0), (c .before .before .before .before .before .before .before .before .before .before .before .before .before .before .before .before .before .before .before .pre .1 .0, room-on _ (omega (arith, c .before .before .before .before .before .before .before .before .before .before .before .before .before .before .before .before .before .before .before .pre .1 .1 .long, long-on _ (c .before .before .before .before .before .before .before .before .before .before .before .before .before .before .put-field .ensures))) (c .before .before .before .before .before .before .before .put-field2 .ensures) (c .before .before .before .h .given .1)))
+put-branch-put-reveal-requires t c κs =
+    let c3 = c .before .before .before in let c7 = c3 .before .before .before .before in let c14 = c7 .before .before .before .before .before .before .before in let c19 = c14 .before .before .before .before .before in
+    (omega (arith, c19 .pre .0), (c19 .pre .1 .0, room-on _ (omega (arith, c19 .pre .1 .1 .long, long-on _ (c14 .put-field .ensures))) (c7 .put-field2 .ensures) (c3 .h .given .1)))
 
 put-branch-slice-aggregate-put-leaf-2 : (t : ℕ) → put-branch-lts.Need-slice-aggregate-put-leaf-2 (put-branch-callees t) (put-branch-at t) put-branch.Post
 put-branch-slice-aggregate-put-leaf-2 t c = search needs
 
 put-branch-put-leaf-requires-2 : (t : ℕ) → put-branch-lts.Need-put-leaf-requires-2 (put-branch-callees t) (put-branch-at t) put-branch.Post
-put-branch-put-leaf-requires-2 t c κs = (room-on _ (omega (arith, c .before .before .before .before .before .before .before .before .before .before .before .before .before .before .before .before .before .before .before .before .pre .1 .1 .long, long-on _ (c .before .before .before .before .before .before .before .before .before .before .before .before .before .before .before .put-field .ensures))) (c .before .before .before .before .before .before .before .before .put-field2 .ensures) (c .before .before .before .before .h .given .1), omega arith)
+put-branch-put-leaf-requires-2 t c κs =
+    let c4 = c .before .before .before .before in let c8 = c4 .before .before .before .before in let c15 = c8 .before .before .before .before .before .before .before in let c20 = c15 .before .before .before .before .before in
+    (room-on _ (omega (arith, c20 .pre .1 .1 .long, long-on _ (c15 .put-field .ensures))) (c8 .put-field2 .ensures) (c4 .h .given .1), omega arith)
 
 put-branch-same-length-3 : (t : ℕ) → put-branch-lts.Need-same-length-3 (put-branch-callees t) (put-branch-at t) put-branch.Post
-put-branch-same-length-3 t c = long-on _ (c .before .before .put-leaf .ensures) ∙ long-on _ (c .before .before .before .before .before .before .before .before .before .before .before .put-field2 .ensures) ∙ long-on _ (c .before .before .before .before .before .before .before .before .before .before .before .before .before .before .before .before .before .before .put-field .ensures)
+put-branch-same-length-3 t c =
+    let c2 = c .before .before in let c11 = c2 .before .before .before .before .before .before .before .before .before in let c18 = c11 .before .before .before .before .before .before .before in
+    long-on _ (c2 .put-leaf .ensures) ∙ long-on _ (c11 .put-field2 .ensures) ∙ long-on _ (c18 .put-field .ensures)
 
 put-branch-returns-3 : (t : ℕ) → put-branch-lts.Need-returns-3 (put-branch-callees t) (put-branch-at t) put-branch.Post
-put-branch-returns-3 t c = branch-by _ _ _ _ _ _ (c .before .before .before .before .before .before .before .before .before .before .before .before .before .before .before .before .before .before .before .before .branch-of .ensures .0) (c .before .before .before .before .before .before .before .before .before .before .before .before .before .before .before .before .before .before .before .before .branch-of .ensures .1) (action-w _ _ _ _ _ (c .before .before .before .before .before .match3 .keys1) (c .before .before .before .before .before .before .before .before .before .before .before .before .before .before .before .before .before .before .before .before .branch-of .ensures .2) (c .before .before .before .before .before .before .before .before .before .before .before .before .before .before .before .before .before .before .before .before .branch-of .ensures .3)) (on-then _ _ _ _ (c .before .before .before .before .before .before .before .before .before .before .before .before .before .before .before .before .before .before .put-field .ensures) (c .before .before .before .before .before .before .before .before .before .before .before .before .before .before .g .given .1) (on-then _ _ _ _ (c .before .before .before .before .before .before .before .before .before .before .before .put-field2 .ensures) (c .before .before .before .before .before .before .before .h .given .1) (c .before .before .put-leaf .ensures)))
+put-branch-returns-3 t c =
+    let c2 = c .before .before in let c5 = c2 .before .before .before in let c7 = c5 .before .before in let c11 = c7 .before .before .before .before in let c14 = c11 .before .before .before in let c18 = c14 .before .before .before .before in let c20 = c18 .before .before in
+    branch-by _ _ _ _ _ _ (c20 .branch-of .ensures .0) (c20 .branch-of .ensures .1) (action-w _ _ _ _ _ (c5 .match3 .keys1) (c20 .branch-of .ensures .2) (c20 .branch-of .ensures .3)) (on-then _ _ _ _ (c18 .put-field .ensures) (c14 .g .given .1) (on-then _ _ _ _ (c11 .put-field2 .ensures) (c7 .h .given .1) (c2 .put-leaf .ensures)))
 
 put-branch-same-length-4 : (t : ℕ) → put-branch-lts.Need-same-length-4 (put-branch-callees t) (put-branch-at t) put-branch.Post
-put-branch-same-length-4 t c = long-on _ (c .before .before .put-split .ensures) ∙ long-on _ (c .before .before .before .before .before .before .before .before .before .before .put-field2 .ensures) ∙ long-on _ (c .before .before .before .before .before .before .before .before .before .before .before .before .before .before .before .before .before .put-field .ensures)
+put-branch-same-length-4 t c =
+    let c2 = c .before .before in let c10 = c2 .before .before .before .before .before .before .before .before in let c17 = c10 .before .before .before .before .before .before .before in
+    long-on _ (c2 .put-split .ensures) ∙ long-on _ (c10 .put-field2 .ensures) ∙ long-on _ (c17 .put-field .ensures)
 
 put-branch-returns-4 : (t : ℕ) → put-branch-lts.Need-returns-4 (put-branch-callees t) (put-branch-at t) put-branch.Post
-put-branch-returns-4 t c = branch-by _ _ _ _ _ _ (c .before .before .before .before .before .before .before .before .before .before .before .before .before .before .before .before .before .before .before .branch-of .ensures .0) (c .before .before .before .before .before .before .before .before .before .before .before .before .before .before .before .before .before .before .before .branch-of .ensures .1) (action-s _ _ _ _ _ (c .before .before .before .before .match3 .keys2) (c .before .before .before .before .before .before .before .before .before .before .before .before .before .before .before .before .before .before .before .branch-of .ensures .2) (c .before .before .before .before .before .before .before .before .before .before .before .before .before .before .before .before .before .before .before .branch-of .ensures .3)) (on-then _ _ _ _ (c .before .before .before .before .before .before .before .before .before .before .before .before .before .before .before .before .before .put-field .ensures) (c .before .before .before .before .before .before .before .before .before .before .before .before .before .g .given .1) (on-then _ _ _ _ (c .before .before .before .before .before .before .before .before .before .before .put-field2 .ensures) (c .before .before .before .before .before .before .h .given .1) (c .before .before .put-split .ensures)))
+put-branch-returns-4 t c =
+    let c2 = c .before .before in let c4 = c2 .before .before in let c6 = c4 .before .before in let c10 = c6 .before .before .before .before in let c13 = c10 .before .before .before in let c17 = c13 .before .before .before .before in let c19 = c17 .before .before in
+    branch-by _ _ _ _ _ _ (c19 .branch-of .ensures .0) (c19 .branch-of .ensures .1) (action-s _ _ _ _ _ (c4 .match3 .keys2) (c19 .branch-of .ensures .2) (c19 .branch-of .ensures .3)) (on-then _ _ _ _ (c17 .put-field .ensures) (c13 .g .given .1) (on-then _ _ _ _ (c10 .put-field2 .ensures) (c6 .h .given .1) (c2 .put-split .ensures)))
 
 put-branch-same-length-5 : (t : ℕ) → put-branch-lts.Need-same-length-5 (put-branch-callees t) (put-branch-at t) put-branch.Post
-put-branch-same-length-5 t c = long-on _ (c .before .before .put-reveal .ensures) ∙ long-on _ (c .before .before .before .before .before .before .before .before .before .before .put-field2 .ensures) ∙ long-on _ (c .before .before .before .before .before .before .before .before .before .before .before .before .before .before .before .before .before .put-field .ensures)
+put-branch-same-length-5 t c =
+    let c2 = c .before .before in let c10 = c2 .before .before .before .before .before .before .before .before in let c17 = c10 .before .before .before .before .before .before .before in
+    long-on _ (c2 .put-reveal .ensures) ∙ long-on _ (c10 .put-field2 .ensures) ∙ long-on _ (c17 .put-field .ensures)
 
 put-branch-returns-5 : (t : ℕ) → put-branch-lts.Need-returns-5 (put-branch-callees t) (put-branch-at t) put-branch.Post
-put-branch-returns-5 t c = branch-by _ _ _ _ _ _ (c .before .before .before .before .before .before .before .before .before .before .before .before .before .before .before .before .before .before .before .branch-of .ensures .0) (c .before .before .before .before .before .before .before .before .before .before .before .before .before .before .before .before .before .before .before .branch-of .ensures .1) (action-r _ _ _ _ _ (c .before .before .before .before .match3 .keys3) (c .before .before .before .before .before .before .before .before .before .before .before .before .before .before .before .before .before .before .before .branch-of .ensures .2) (c .before .before .before .before .before .before .before .before .before .before .before .before .before .before .before .before .before .before .before .branch-of .ensures .4)) (on-then _ _ _ _ (c .before .before .before .before .before .before .before .before .before .before .before .before .before .before .before .before .before .put-field .ensures) (c .before .before .before .before .before .before .before .before .before .before .before .before .before .g .given .1) (on-then _ _ _ _ (c .before .before .before .before .before .before .before .before .before .before .put-field2 .ensures) (c .before .before .before .before .before .before .h .given .1) (c .before .before .put-reveal .ensures)))
+put-branch-returns-5 t c =
+    let c2 = c .before .before in let c4 = c2 .before .before in let c6 = c4 .before .before in let c10 = c6 .before .before .before .before in let c13 = c10 .before .before .before in let c17 = c13 .before .before .before .before in let c19 = c17 .before .before in
+    branch-by _ _ _ _ _ _ (c19 .branch-of .ensures .0) (c19 .branch-of .ensures .1) (action-r _ _ _ _ _ (c4 .match3 .keys3) (c19 .branch-of .ensures .2) (c19 .branch-of .ensures .4)) (on-then _ _ _ _ (c17 .put-field .ensures) (c13 .g .given .1) (on-then _ _ _ _ (c10 .put-field2 .ensures) (c6 .h .given .1) (c2 .put-reveal .ensures)))
 
 put-branch-same-length-6 : (t : ℕ) → put-branch-lts.Need-same-length-6 (put-branch-callees t) (put-branch-at t) put-branch.Post
-put-branch-same-length-6 t c = long-on _ (c .before .before .put-leaf2 .ensures) ∙ long-on _ (c .before .before .before .before .before .before .before .before .before .before .before .put-field2 .ensures) ∙ long-on _ (c .before .before .before .before .before .before .before .before .before .before .before .before .before .before .before .before .before .before .put-field .ensures)
+put-branch-same-length-6 t c =
+    let c2 = c .before .before in let c11 = c2 .before .before .before .before .before .before .before .before .before in let c18 = c11 .before .before .before .before .before .before .before in
+    long-on _ (c2 .put-leaf2 .ensures) ∙ long-on _ (c11 .put-field2 .ensures) ∙ long-on _ (c18 .put-field .ensures)
 
 put-branch-returns-6 : (t : ℕ) → put-branch-lts.Need-returns-6 (put-branch-callees t) (put-branch-at t) put-branch.Post
-put-branch-returns-6 t c = branch-by _ _ _ _ _ _ (c .before .before .before .before .before .before .before .before .before .before .before .before .before .before .before .before .before .before .before .before .branch-of .ensures .0) (c .before .before .before .before .before .before .before .before .before .before .before .before .before .before .before .before .before .before .before .before .branch-of .ensures .1) (action-g _ _ _ _ _ (c .before .before .before .before .before .match3 .rest .0 .0 .1) (c .before .before .before .before .before .match3 .rest .0 .1) (c .before .before .before .before .before .match3 .rest .1) (c .before .before .before .before .before .before .before .before .before .before .before .before .before .before .before .before .before .before .before .before .branch-of .ensures .2) (c .before .before .before .before .before .before .before .before .before .before .before .before .before .before .before .before .before .before .before .before .branch-of .ensures .3)) (on-then _ _ _ _ (c .before .before .before .before .before .before .before .before .before .before .before .before .before .before .before .before .before .before .put-field .ensures) (c .before .before .before .before .before .before .before .before .before .before .before .before .before .before .g .given .1) (on-then _ _ _ _ (c .before .before .before .before .before .before .before .before .before .before .before .put-field2 .ensures) (c .before .before .before .before .before .before .before .h .given .1) (c .before .before .put-leaf2 .ensures)))
+put-branch-returns-6 t c =
+    let c2 = c .before .before in let c5 = c2 .before .before .before in let c7 = c5 .before .before in let c11 = c7 .before .before .before .before in let c14 = c11 .before .before .before in let c18 = c14 .before .before .before .before in let c20 = c18 .before .before in
+    branch-by _ _ _ _ _ _ (c20 .branch-of .ensures .0) (c20 .branch-of .ensures .1) (action-g _ _ _ _ _ (c5 .match3 .rest .0 .0 .1) (c5 .match3 .rest .0 .1) (c5 .match3 .rest .1) (c20 .branch-of .ensures .2) (c20 .branch-of .ensures .3)) (on-then _ _ _ _ (c18 .put-field .ensures) (c14 .g .given .1) (on-then _ _ _ _ (c11 .put-field2 .ensures) (c7 .h .given .1) (c2 .put-leaf2 .ensures)))
 
 abbrev put-contract-Inv-loop : put-contract-lts.InvT-loop
 put-contract-Inv-loop t depth out₀ n cur₀ left₀ out cur left = ((r : Put) (v : List ℕ) → Puts out (cur .at) (repeat left (branchText (held t) (contractText (held t) (depth - 1))) (due cur)) r v → Puts out₀ (cur₀ .at) (repeat left₀ (branchText (held t) (contractText (held t) (depth - 1))) (due cur₀)) r v) × Room out cur × (length out ≡ length out₀)
@@ -179,16 +217,22 @@ abbrev put-contract-μ-loop : put-contract-lts.MeasureT-loop
 put-contract-μ-loop t depth out₀ n cur₀ left₀ out cur left = left
 
 put-contract-returns : (t : ℕ) → put-contract-lts.Need-returns (put-contract-callees t) (put-contract-at t) put-contract.Post put-contract-Inv-loop put-contract-μ-loop
-put-contract-returns t c = contract-none _ _ _ (c .if1 .taken) (stay _ _ (c .before .before .before .pre .1 .1 .small))
+put-contract-returns t c =
+    let c3 = c .before .before .before in
+    contract-none _ _ _ (c .if1 .taken) (stay _ _ (c3 .pre .1 .1 .small))
 
 put-contract-count-of-requires : (t : ℕ) → put-contract-lts.Need-count-of-requires (put-contract-callees t) (put-contract-at t) put-contract.Post put-contract-Inv-loop put-contract-μ-loop
-put-contract-count-of-requires t c κs = c .before .before .before .pre .1 .0
+put-contract-count-of-requires t c κs =
+    let c3 = c .before .before .before in
+    c3 .pre .1 .0
 
 put-contract-slice-aggregate-put-letters : (t : ℕ) → put-contract-lts.Need-slice-aggregate-put-letters (put-contract-callees t) (put-contract-at t) put-contract.Post put-contract-Inv-loop put-contract-μ-loop
 put-contract-slice-aggregate-put-letters t c = search needs
 
 put-contract-put-letters-requires : (t : ℕ) → put-contract-lts.Need-put-letters-requires (put-contract-callees t) (put-contract-at t) put-contract.Post put-contract-Inv-loop put-contract-μ-loop
-put-contract-put-letters-requires t c κs = (c .before .before .before .before .before .before .pre .1 .1, omega arith)
+put-contract-put-letters-requires t c κs =
+    let c6 = c .before .before .before .before .before .before in
+    (c6 .pre .1 .1, omega arith)
 
 put-contract-enum-known-g : (t : ℕ) → put-contract-lts.Need-enum-known-g (put-contract-callees t) (put-contract-at t) put-contract.Post put-contract-Inv-loop put-contract-μ-loop
 put-contract-enum-known-g t c = search needs
@@ -197,13 +241,19 @@ put-contract-enum-told : (t : ℕ) → put-contract-lts.Need-enum-told (put-cont
 put-contract-enum-told t c = search needs
 
 put-contract-same-length : (t : ℕ) → put-contract-lts.Need-same-length (put-contract-callees t) (put-contract-at t) put-contract.Post put-contract-Inv-loop put-contract-μ-loop
-put-contract-same-length t c = long-on _ (c .before .before .before .before .put-letters .ensures)
+put-contract-same-length t c =
+    let c4 = c .before .before .before .before in
+    long-on _ (c4 .put-letters .ensures)
 
 put-contract-returns-2 : (t : ℕ) → put-contract-lts.Need-returns-2 (put-contract-callees t) (put-contract-at t) put-contract.Post put-contract-Inv-loop put-contract-μ-loop
-put-contract-returns-2 t c = contract-more _ _ _ _ (c .before .before .before .before .before .before .before .before .if1 .left) (c .before .before .before .before .before .before .before .count-of .ensures) (full-then _ _ _ (c .before .before .before .before .put-letters .ensures) (c .enum-told .given .1))
+put-contract-returns-2 t c =
+    let c4 = c .before .before .before .before in let c7 = c4 .before .before .before in let c8 = c7 .before in
+    contract-more _ _ _ _ (c8 .if1 .left) (c7 .count-of .ensures) (full-then _ _ _ (c4 .put-letters .ensures) (c .enum-told .given .1))
 
 put-contract-put-field-requires : (t : ℕ) → put-contract-lts.Need-put-field-requires (put-contract-callees t) (put-contract-at t) put-contract.Post put-contract-Inv-loop put-contract-μ-loop
-put-contract-put-field-requires t c κs = room-on _ (c .before .before .before .before .before .before .before .before .before .before .before .before .before .pre .1 .1 .long) (c .before .before .before .before .before .before .put-letters .ensures) (c .before .before .g .given .1)
+put-contract-put-field-requires t c κs =
+    let c2 = c .before .before in let c6 = c2 .before .before .before .before in let c13 = c6 .before .before .before .before .before .before .before in
+    room-on _ (c13 .pre .1 .1 .long) (c6 .put-letters .ensures) (c2 .g .given .1)
 
 put-contract-enum-known-h : (t : ℕ) → put-contract-lts.Need-enum-known-h (put-contract-callees t) (put-contract-at t) put-contract.Post put-contract-Inv-loop put-contract-μ-loop
 put-contract-enum-known-h t c = search needs
@@ -212,22 +262,34 @@ put-contract-enum-told-2 : (t : ℕ) → put-contract-lts.Need-enum-told-2 (put-
 put-contract-enum-told-2 t c = search needs
 
 put-contract-same-length-2 : (t : ℕ) → put-contract-lts.Need-same-length-2 (put-contract-callees t) (put-contract-at t) put-contract.Post put-contract-Inv-loop put-contract-μ-loop
-put-contract-same-length-2 t c = long-on _ (c .before .before .before .before .put-field .ensures) ∙ long-on _ (c .before .before .before .before .before .before .before .before .before .before .before .put-letters .ensures)
+put-contract-same-length-2 t c =
+    let c4 = c .before .before .before .before in let c11 = c4 .before .before .before .before .before .before .before in
+    long-on _ (c4 .put-field .ensures) ∙ long-on _ (c11 .put-letters .ensures)
 
 put-contract-returns-3 : (t : ℕ) → put-contract-lts.Need-returns-3 (put-contract-callees t) (put-contract-at t) put-contract.Post put-contract-Inv-loop put-contract-μ-loop
-put-contract-returns-3 t c = contract-more _ _ _ _ (c .before .before .before .before .before .before .before .before .before .before .before .before .before .before .before .if1 .left) (c .before .before .before .before .before .before .before .before .before .before .before .before .before .before .count-of .ensures) (on-then _ _ _ _ (c .before .before .before .before .before .before .before .before .before .before .before .put-letters .ensures) (c .before .before .before .before .before .before .before .g .given .1) (full-then _ _ _ (c .before .before .before .before .put-field .ensures) (c .enum-told2 .given .1)))
+put-contract-returns-3 t c =
+    let c4 = c .before .before .before .before in let c7 = c4 .before .before .before in let c11 = c7 .before .before .before .before in let c14 = c11 .before .before .before in let c15 = c14 .before in
+    contract-more _ _ _ _ (c15 .if1 .left) (c14 .count-of .ensures) (on-then _ _ _ _ (c11 .put-letters .ensures) (c7 .g .given .1) (full-then _ _ _ (c4 .put-field .ensures) (c .enum-told2 .given .1)))
 
 put-contract-node-done-requires : (t : ℕ) → put-contract-lts.Need-node-done-requires (put-contract-callees t) (put-contract-at t) put-contract.Post put-contract-Inv-loop put-contract-μ-loop
-put-contract-node-done-requires t c κs = let s = (c .before .before .before .before .before .put-field .ensures) .on _ (c .before .h .given .1) .small in omega (arith, s .short, s .nodes)
+put-contract-node-done-requires t c κs =
+    let c5 = c .before .before .before .before .before in
+    let s = (c5 .put-field .ensures) .on _ (c .before .h .given .1) .small in omega (arith, s .short, s .nodes)
 
 put-contract-loop-holds : (t : ℕ) → put-contract-lts.Need-loop-holds (put-contract-callees t) (put-contract-at t) put-contract.Post put-contract-Inv-loop put-contract-μ-loop
-put-contract-loop-holds t c = ((λ r v m. m), node-room _ _ _ _ (c .before .before .before .before .before .before .put-field .ensures) (c .before .before .h .given .1) ((c .before .before .before .before .before .before .before .before .before .before .before .before .before .put-letters .ensures) .on _ (c .before .before .before .before .before .before .before .before .before .g .given .1) .small) (field-some _) (c .node-done .ensures) (omega (arith, c .before .before .before .before .before .before .before .before .before .before .before .before .before .before .before .before .before .before .before .before .pre .1 .1 .long, long-on _ (c .before .before .before .before .before .before .before .before .before .before .before .before .before .put-letters .ensures))), refl)
+put-contract-loop-holds t c =
+    let c2 = c .before .before in let c6 = c2 .before .before .before .before in let c9 = c6 .before .before .before in let c13 = c9 .before .before .before .before in let c20 = c13 .before .before .before .before .before .before .before in
+    ((λ r v m. m), node-room _ _ _ _ (c6 .put-field .ensures) (c2 .h .given .1) ((c13 .put-letters .ensures) .on _ (c9 .g .given .1) .small) (field-some _) (c .node-done .ensures) (omega (arith, c20 .pre .1 .1 .long, long-on _ (c13 .put-letters .ensures))), refl)
 
 put-contract-sub-put-branch : (t : ℕ) → put-contract-lts.Need-sub-put-branch (put-contract-callees t) (put-contract-at t) put-contract.Post put-contract-Inv-loop put-contract-μ-loop
-put-contract-sub-put-branch t c = omega (arith, c .before .before .before .before .before .before .before .before .before .before .before .before .before .before .before .before .before .before .before .if1 .left)
+put-contract-sub-put-branch t c =
+    let c19 = c .before .before .before .before .before .before .before .before .before .before .before .before .before .before .before .before .before .before .before in
+    omega (arith, c19 .if1 .left)
 
 put-contract-put-branch-requires : (t : ℕ) → put-contract-lts.Need-put-branch-requires (put-contract-callees t) (put-contract-at t) put-contract.Post put-contract-Inv-loop put-contract-μ-loop
-put-contract-put-branch-requires t c κs = (omega (arith, c .before .before .before .before .before .before .before .before .before .before .before .before .before .before .before .before .before .before .before .before .before .before .before .pre .0, c .before .before .before .before .before .before .before .before .before .before .before .before .before .before .before .before .before .before .before .before .if1 .left), (c .before .before .before .before .before .before .before .before .before .before .before .before .before .before .before .before .before .before .before .before .before .before .before .pre .1 .0, c .before .before .loop .inv .1))
+put-contract-put-branch-requires t c κs =
+    let c2 = c .before .before in let c20 = c2 .before .before .before .before .before .before .before .before .before .before .before .before .before .before .before .before .before .before in let c23 = c20 .before .before .before in
+    (omega (arith, c23 .pre .0, c20 .if1 .left), (c23 .pre .1 .0, c2 .loop .inv .1))
 
 put-contract-enum-known-b : (t : ℕ) → put-contract-lts.Need-enum-known-b (put-contract-callees t) (put-contract-at t) put-contract.Post put-contract-Inv-loop put-contract-μ-loop
 put-contract-enum-known-b t c = search needs
@@ -236,10 +298,14 @@ put-contract-enum-told-3 : (t : ℕ) → put-contract-lts.Need-enum-told-3 (put-
 put-contract-enum-told-3 t c = search needs
 
 put-contract-same-length-3 : (t : ℕ) → put-contract-lts.Need-same-length-3 (put-contract-callees t) (put-contract-at t) put-contract.Post put-contract-Inv-loop put-contract-μ-loop
-put-contract-same-length-3 t c = long-on _ (c .before .before .before .before .put-branch .ensures) ∙ c .before .before .before .before .before .before .before .loop .inv .2 ∙ long-on _ (c .before .before .before .before .before .before .before .before .before .before .before .before .before .before .put-field .ensures) ∙ long-on _ (c .before .before .before .before .before .before .before .before .before .before .before .before .before .before .before .before .before .before .before .before .before .put-letters .ensures)
+put-contract-same-length-3 t c =
+    let c4 = c .before .before .before .before in let c7 = c4 .before .before .before in let c14 = c7 .before .before .before .before .before .before .before in let c21 = c14 .before .before .before .before .before .before .before in
+    long-on _ (c4 .put-branch .ensures) ∙ c7 .loop .inv .2 ∙ long-on _ (c14 .put-field .ensures) ∙ long-on _ (c21 .put-letters .ensures)
 
 put-contract-returns-4 : (t : ℕ) → put-contract-lts.Need-returns-4 (put-contract-callees t) (put-contract-at t) put-contract.Post put-contract-Inv-loop put-contract-μ-loop
-put-contract-returns-4 t c = contract-more _ _ _ _ (c .before .before .before .before .before .before .before .before .before .before .before .before .before .before .before .before .before .before .before .before .before .before .before .before .before .if1 .left) (c .before .before .before .before .before .before .before .before .before .before .before .before .before .before .before .before .before .before .before .before .before .before .before .before .count-of .ensures) (on-then _ _ _ _ (c .before .before .before .before .before .before .before .before .before .before .before .before .before .before .before .before .before .before .before .before .before .put-letters .ensures) (c .before .before .before .before .before .before .before .before .before .before .before .before .before .before .before .before .before .g .given .1) (node-next _ _ _ _ (c .before .before .before .before .before .before .before .before .before .before .before .before .before .before .put-field .ensures) (c .before .before .before .before .before .before .before .before .before .before .h .given .1) ((c .before .before .before .before .before .before .before .before .before .before .before .before .before .before .before .before .before .before .before .before .before .put-letters .ensures) .on _ (c .before .before .before .before .before .before .before .before .before .before .before .before .before .before .before .before .before .g .given .1) .small) (field-some _) (c .before .before .before .before .before .before .before .before .node-done .ensures) _ (c .before .before .before .before .before .before .before .loop .inv .0 _ _ (repeat-more _ _ _ (c .before .before .before .before .before .before .loop-test .taken) (full-then _ _ _ (c .before .before .before .before .put-branch .ensures) (c .enum-told3 .given .1))))))
+put-contract-returns-4 t c =
+    let c4 = c .before .before .before .before in let c6 = c4 .before .before in let c7 = c6 .before in let c8 = c7 .before in let c10 = c8 .before .before in let c14 = c10 .before .before .before .before in let c17 = c14 .before .before .before in let c21 = c17 .before .before .before .before in let c24 = c21 .before .before .before in let c25 = c24 .before in
+    contract-more _ _ _ _ (c25 .if1 .left) (c24 .count-of .ensures) (on-then _ _ _ _ (c21 .put-letters .ensures) (c17 .g .given .1) (node-next _ _ _ _ (c14 .put-field .ensures) (c10 .h .given .1) ((c21 .put-letters .ensures) .on _ (c17 .g .given .1) .small) (field-some _) (c8 .node-done .ensures) _ (c7 .loop .inv .0 _ _ (repeat-more _ _ _ (c6 .loop-test .taken) (full-then _ _ _ (c4 .put-branch .ensures) (c .enum-told3 .given .1))))))
 
 put-contract-sub-left : (t : ℕ) → put-contract-lts.Need-sub-left (put-contract-callees t) (put-contract-at t) put-contract.Post put-contract-Inv-loop put-contract-μ-loop
 put-contract-sub-left t c = search needs
@@ -248,19 +314,27 @@ put-contract-loop-less : (t : ℕ) → put-contract-lts.Need-loop-less (put-cont
 put-contract-loop-less t c = search needs
 
 put-contract-loop-again : (t : ℕ) → put-contract-lts.Need-loop-again (put-contract-callees t) (put-contract-at t) put-contract.Post put-contract-Inv-loop put-contract-μ-loop
-put-contract-loop-again t c = ((λ r v m. c .before .before .before .before .before .before .before .before .loop .inv .0 _ _ (repeat-more _ _ _ (c .before .before .before .before .before .before .before .loop-test .taken) (on-then _ _ _ _ (c .before .before .before .before .before .put-branch .ensures) (c .before .b .given .1) m))), room-on _ (c .before .before .before .before .before .before .before .before .loop .inv .1 .long) (c .before .before .before .before .before .put-branch .ensures) (c .before .b .given .1), long-on _ (c .before .before .before .before .before .put-branch .ensures) ∙ c .before .before .before .before .before .before .before .before .loop .inv .2)
+put-contract-loop-again t c =
+    let c5 = c .before .before .before .before .before in let c7 = c5 .before .before in let c8 = c7 .before in
+    ((λ r v m. c8 .loop .inv .0 _ _ (repeat-more _ _ _ (c7 .loop-test .taken) (on-then _ _ _ _ (c5 .put-branch .ensures) (c .before .b .given .1) m))), room-on _ (c8 .loop .inv .1 .long) (c5 .put-branch .ensures) (c .before .b .given .1), long-on _ (c5 .put-branch .ensures) ∙ c8 .loop .inv .2)
 
 put-contract-same-length-4 : (t : ℕ) → put-contract-lts.Need-same-length-4 (put-contract-callees t) (put-contract-at t) put-contract.Post put-contract-Inv-loop put-contract-μ-loop
-put-contract-same-length-4 t c = c .before .loop .inv .2 ∙ long-on _ (c .before .before .before .before .before .before .before .before .put-field .ensures) ∙ long-on _ (c .before .before .before .before .before .before .before .before .before .before .before .before .before .before .before .put-letters .ensures)
+put-contract-same-length-4 t c =
+    let c8 = c .before .before .before .before .before .before .before .before in let c15 = c8 .before .before .before .before .before .before .before in
+    c .before .loop .inv .2 ∙ long-on _ (c8 .put-field .ensures) ∙ long-on _ (c15 .put-letters .ensures)
 
 put-contract-returns-5 : (t : ℕ) → put-contract-lts.Need-returns-5 (put-contract-callees t) (put-contract-at t) put-contract.Post put-contract-Inv-loop put-contract-μ-loop
-put-contract-returns-5 t c = contract-more _ _ _ _ (c .before .before .before .before .before .before .before .before .before .before .before .before .before .before .before .before .before .before .before .if1 .left) (c .before .before .before .before .before .before .before .before .before .before .before .before .before .before .before .before .before .before .count-of .ensures) (on-then _ _ _ _ (c .before .before .before .before .before .before .before .before .before .before .before .before .before .before .before .put-letters .ensures) (c .before .before .before .before .before .before .before .before .before .before .before .g .given .1) (node-next _ _ _ _ (c .before .before .before .before .before .before .before .before .put-field .ensures) (c .before .before .before .before .h .given .1) ((c .before .before .before .before .before .before .before .before .before .before .before .before .before .before .before .put-letters .ensures) .on _ (c .before .before .before .before .before .before .before .before .before .before .before .g .given .1) .small) (field-some _) (c .before .before .node-done .ensures) _ (c .before .loop .inv .0 _ _ (repeat-none _ _ _ (c .loop-test .left) (stay _ _ (c .before .loop .inv .1 .small))))))
+put-contract-returns-5 t c =
+    let c2 = c .before .before in let c4 = c2 .before .before in let c8 = c4 .before .before .before .before in let c11 = c8 .before .before .before in let c15 = c11 .before .before .before .before in let c18 = c15 .before .before .before in let c19 = c18 .before in
+    contract-more _ _ _ _ (c19 .if1 .left) (c18 .count-of .ensures) (on-then _ _ _ _ (c15 .put-letters .ensures) (c11 .g .given .1) (node-next _ _ _ _ (c8 .put-field .ensures) (c4 .h .given .1) ((c15 .put-letters .ensures) .on _ (c11 .g .given .1) .small) (field-some _) (c2 .node-done .ensures) _ (c .before .loop .inv .0 _ _ (repeat-none _ _ _ (c .loop-test .left) (stay _ _ (c .before .loop .inv .1 .small))))))
 
 put-reveal-slice-aggregate-put-letters : (t : ℕ) → put-reveal-lts.Need-slice-aggregate-put-letters (put-reveal-callees t) (put-reveal-at t) put-reveal.Post
 put-reveal-slice-aggregate-put-letters t c = search needs
 
 put-reveal-put-letters-requires : (t : ℕ) → put-reveal-lts.Need-put-letters-requires (put-reveal-callees t) (put-reveal-at t) put-reveal.Post
-put-reveal-put-letters-requires t c κs = (c .before .before .before .before .pre .1 .1, omega arith)
+put-reveal-put-letters-requires t c κs =
+    let c4 = c .before .before .before .before in
+    (c4 .pre .1 .1, omega arith)
 
 put-reveal-enum-known-g : (t : ℕ) → put-reveal-lts.Need-enum-known-g (put-reveal-callees t) (put-reveal-at t) put-reveal.Post
 put-reveal-enum-known-g t c = search needs
@@ -269,14 +343,20 @@ put-reveal-enum-told : (t : ℕ) → put-reveal-lts.Need-enum-told (put-reveal-c
 put-reveal-enum-told t c = search needs
 
 put-reveal-same-length : (t : ℕ) → put-reveal-lts.Need-same-length (put-reveal-callees t) (put-reveal-at t) put-reveal.Post
-put-reveal-same-length t c = long-on _ (c .before .before .before .before .put-letters .ensures)
+put-reveal-same-length t c =
+    let c4 = c .before .before .before .before in
+    long-on _ (c4 .put-letters .ensures)
 
 put-reveal-returns : (t : ℕ) → put-reveal-lts.Need-returns (put-reveal-callees t) (put-reveal-at t) put-reveal.Post
 unfolding revealText
-put-reveal-returns t c = full-then _ _ _ (c .before .before .before .before .put-letters .ensures) (c .enum-told .given .1)
+put-reveal-returns t c =
+    let c4 = c .before .before .before .before in
+    full-then _ _ _ (c4 .put-letters .ensures) (c .enum-told .given .1)
 
 put-reveal-put-field-requires : (t : ℕ) → put-reveal-lts.Need-put-field-requires (put-reveal-callees t) (put-reveal-at t) put-reveal.Post
-put-reveal-put-field-requires t c κs = room-on _ (c .before .before .before .before .before .before .before .before .before .before .before .pre .1 .1 .long) (c .before .before .before .before .before .before .put-letters .ensures) (c .before .before .g .given .1)
+put-reveal-put-field-requires t c κs =
+    let c2 = c .before .before in let c6 = c2 .before .before .before .before in let c11 = c6 .before .before .before .before .before in
+    room-on _ (c11 .pre .1 .1 .long) (c6 .put-letters .ensures) (c2 .g .given .1)
 
 put-reveal-enum-known-h : (t : ℕ) → put-reveal-lts.Need-enum-known-h (put-reveal-callees t) (put-reveal-at t) put-reveal.Post
 put-reveal-enum-known-h t c = search needs
@@ -285,14 +365,20 @@ put-reveal-enum-told-2 : (t : ℕ) → put-reveal-lts.Need-enum-told-2 (put-reve
 put-reveal-enum-told-2 t c = search needs
 
 put-reveal-same-length-2 : (t : ℕ) → put-reveal-lts.Need-same-length-2 (put-reveal-callees t) (put-reveal-at t) put-reveal.Post
-put-reveal-same-length-2 t c = long-on _ (c .before .before .before .before .put-field .ensures) ∙ long-on _ (c .before .before .before .before .before .before .before .before .before .before .before .put-letters .ensures)
+put-reveal-same-length-2 t c =
+    let c4 = c .before .before .before .before in let c11 = c4 .before .before .before .before .before .before .before in
+    long-on _ (c4 .put-field .ensures) ∙ long-on _ (c11 .put-letters .ensures)
 
 put-reveal-returns-2 : (t : ℕ) → put-reveal-lts.Need-returns-2 (put-reveal-callees t) (put-reveal-at t) put-reveal.Post
 unfolding revealText
-put-reveal-returns-2 t c = on-then _ _ _ _ (c .before .before .before .before .before .before .before .before .before .before .before .put-letters .ensures) (c .before .before .before .before .before .before .before .g .given .1) (full-then _ _ _ (c .before .before .before .before .put-field .ensures) (c .enum-told2 .given .1))
+put-reveal-returns-2 t c =
+    let c4 = c .before .before .before .before in let c7 = c4 .before .before .before in let c11 = c7 .before .before .before .before in
+    on-then _ _ _ _ (c11 .put-letters .ensures) (c7 .g .given .1) (full-then _ _ _ (c4 .put-field .ensures) (c .enum-told2 .given .1))
 
 put-reveal-put-all-listed-requires : (t : ℕ) → put-reveal-lts.Need-put-all-listed-requires (put-reveal-callees t) (put-reveal-at t) put-reveal.Post
-put-reveal-put-all-listed-requires t c κs = (c .before .before .before .before .before .before .before .before .before .before .before .before .before .before .before .before .before .before .pre .1 .0, room-on _ (omega (arith, c .before .before .before .before .before .before .before .before .before .before .before .before .before .before .before .before .before .before .pre .1 .1 .long, long-on _ (c .before .before .before .before .before .before .before .before .before .before .before .before .before .put-letters .ensures))) (c .before .before .before .before .before .before .put-field .ensures) (c .before .before .h .given .1))
+put-reveal-put-all-listed-requires t c κs =
+    let c2 = c .before .before in let c6 = c2 .before .before .before .before in let c13 = c6 .before .before .before .before .before .before .before in let c18 = c13 .before .before .before .before .before in
+    (c18 .pre .1 .0, room-on _ (omega (arith, c18 .pre .1 .1 .long, long-on _ (c13 .put-letters .ensures))) (c6 .put-field .ensures) (c2 .h .given .1))
 
 put-reveal-enum-known-i : (t : ℕ) → put-reveal-lts.Need-enum-known-i (put-reveal-callees t) (put-reveal-at t) put-reveal.Post
 put-reveal-enum-known-i t c = search needs
@@ -301,14 +387,20 @@ put-reveal-enum-told-3 : (t : ℕ) → put-reveal-lts.Need-enum-told-3 (put-reve
 put-reveal-enum-told-3 t c = search needs
 
 put-reveal-same-length-3 : (t : ℕ) → put-reveal-lts.Need-same-length-3 (put-reveal-callees t) (put-reveal-at t) put-reveal.Post
-put-reveal-same-length-3 t c = long-on _ (c .before .before .before .before .put-all-listed .ensures) ∙ long-on _ (c .before .before .before .before .before .before .before .before .before .before .before .put-field .ensures) ∙ long-on _ (c .before .before .before .before .before .before .before .before .before .before .before .before .before .before .before .before .before .before .put-letters .ensures)
+put-reveal-same-length-3 t c =
+    let c4 = c .before .before .before .before in let c11 = c4 .before .before .before .before .before .before .before in let c18 = c11 .before .before .before .before .before .before .before in
+    long-on _ (c4 .put-all-listed .ensures) ∙ long-on _ (c11 .put-field .ensures) ∙ long-on _ (c18 .put-letters .ensures)
 
 put-reveal-returns-3 : (t : ℕ) → put-reveal-lts.Need-returns-3 (put-reveal-callees t) (put-reveal-at t) put-reveal.Post
 unfolding revealText
-put-reveal-returns-3 t c = on-then _ _ _ _ (c .before .before .before .before .before .before .before .before .before .before .before .before .before .before .before .before .before .before .put-letters .ensures) (c .before .before .before .before .before .before .before .before .before .before .before .before .before .before .g .given .1) (on-then _ _ _ _ (c .before .before .before .before .before .before .before .before .before .before .before .put-field .ensures) (c .before .before .before .before .before .before .before .h .given .1) (full-then _ _ _ (c .before .before .before .before .put-all-listed .ensures) (c .enum-told3 .given .1)))
+put-reveal-returns-3 t c =
+    let c4 = c .before .before .before .before in let c7 = c4 .before .before .before in let c11 = c7 .before .before .before .before in let c14 = c11 .before .before .before in let c18 = c14 .before .before .before .before in
+    on-then _ _ _ _ (c18 .put-letters .ensures) (c14 .g .given .1) (on-then _ _ _ _ (c11 .put-field .ensures) (c7 .h .given .1) (full-then _ _ _ (c4 .put-all-listed .ensures) (c .enum-told3 .given .1)))
 
 put-reveal-put-condition-requires : (t : ℕ) → put-reveal-lts.Need-put-condition-requires (put-reveal-callees t) (put-reveal-at t) put-reveal.Post
-put-reveal-put-condition-requires t c κs = (c .before .before .before .before .before .before .before .before .before .before .before .before .before .before .before .before .before .before .before .before .before .before .before .before .before .pre .1 .0, room-on _ (omega (arith, c .before .before .before .before .before .before .before .before .before .before .before .before .before .before .before .before .before .before .before .before .before .before .before .before .before .pre .1 .1 .long, long-on _ (c .before .before .before .before .before .before .before .before .before .before .before .before .before .put-field .ensures) ∙ long-on _ (c .before .before .before .before .before .before .before .before .before .before .before .before .before .before .before .before .before .before .before .before .put-letters .ensures))) (c .before .before .before .before .before .before .put-all-listed .ensures) (c .before .before .i .given .1))
+put-reveal-put-condition-requires t c κs =
+    let c2 = c .before .before in let c6 = c2 .before .before .before .before in let c13 = c6 .before .before .before .before .before .before .before in let c20 = c13 .before .before .before .before .before .before .before in let c25 = c20 .before .before .before .before .before in
+    (c25 .pre .1 .0, room-on _ (omega (arith, c25 .pre .1 .1 .long, long-on _ (c13 .put-field .ensures) ∙ long-on _ (c20 .put-letters .ensures))) (c6 .put-all-listed .ensures) (c2 .i .given .1))
 
 put-reveal-enum-known-c : (t : ℕ) → put-reveal-lts.Need-enum-known-c (put-reveal-callees t) (put-reveal-at t) put-reveal.Post
 put-reveal-enum-known-c t c = search needs
@@ -317,24 +409,36 @@ put-reveal-enum-told-4 : (t : ℕ) → put-reveal-lts.Need-enum-told-4 (put-reve
 put-reveal-enum-told-4 t c = search needs
 
 put-reveal-same-length-4 : (t : ℕ) → put-reveal-lts.Need-same-length-4 (put-reveal-callees t) (put-reveal-at t) put-reveal.Post
-put-reveal-same-length-4 t c = long-on _ (c .before .before .before .before .put-condition .ensures) ∙ long-on _ (c .before .before .before .before .before .before .before .before .before .before .before .put-all-listed .ensures) ∙ long-on _ (c .before .before .before .before .before .before .before .before .before .before .before .before .before .before .before .before .before .before .put-field .ensures) ∙ long-on _ (c .before .before .before .before .before .before .before .before .before .before .before .before .before .before .before .before .before .before .before .before .before .before .before .before .before .put-letters .ensures)
+put-reveal-same-length-4 t c =
+    let c4 = c .before .before .before .before in let c11 = c4 .before .before .before .before .before .before .before in let c18 = c11 .before .before .before .before .before .before .before in let c25 = c18 .before .before .before .before .before .before .before in
+    long-on _ (c4 .put-condition .ensures) ∙ long-on _ (c11 .put-all-listed .ensures) ∙ long-on _ (c18 .put-field .ensures) ∙ long-on _ (c25 .put-letters .ensures)
 
 put-reveal-returns-4 : (t : ℕ) → put-reveal-lts.Need-returns-4 (put-reveal-callees t) (put-reveal-at t) put-reveal.Post
 unfolding revealText
-put-reveal-returns-4 t c = on-then _ _ _ _ (c .before .before .before .before .before .before .before .before .before .before .before .before .before .before .before .before .before .before .before .before .before .before .before .before .before .put-letters .ensures) (c .before .before .before .before .before .before .before .before .before .before .before .before .before .before .before .before .before .before .before .before .before .g .given .1) (on-then _ _ _ _ (c .before .before .before .before .before .before .before .before .before .before .before .before .before .before .before .before .before .before .put-field .ensures) (c .before .before .before .before .before .before .before .before .before .before .before .before .before .before .h .given .1) (on-then _ _ _ _ (c .before .before .before .before .before .before .before .before .before .before .before .put-all-listed .ensures) (c .before .before .before .before .before .before .before .i .given .1) (full-then _ _ _ (c .before .before .before .before .put-condition .ensures) (c .enum-told4 .given .1))))
+put-reveal-returns-4 t c =
+    let c4 = c .before .before .before .before in let c7 = c4 .before .before .before in let c11 = c7 .before .before .before .before in let c14 = c11 .before .before .before in let c18 = c14 .before .before .before .before in let c21 = c18 .before .before .before in let c25 = c21 .before .before .before .before in
+    on-then _ _ _ _ (c25 .put-letters .ensures) (c21 .g .given .1) (on-then _ _ _ _ (c18 .put-field .ensures) (c14 .h .given .1) (on-then _ _ _ _ (c11 .put-all-listed .ensures) (c7 .i .given .1) (full-then _ _ _ (c4 .put-condition .ensures) (c .enum-told4 .given .1))))
 
 put-reveal-branch-done-requires : (t : ℕ) → put-reveal-lts.Need-branch-done-requires (put-reveal-callees t) (put-reveal-at t) put-reveal.Post
-put-reveal-branch-done-requires t c κs = let s = (c .before .before .before .before .before .put-condition .ensures) .on _ (c .before .c .given .1) .small in omega (arith, s .short, s .branches)
+put-reveal-branch-done-requires t c κs =
+    let c5 = c .before .before .before .before .before in
+    let s = (c5 .put-condition .ensures) .on _ (c .before .c .given .1) .small in omega (arith, s .short, s .branches)
 
 put-reveal-put-contract-requires : (t : ℕ) → put-reveal-lts.Need-put-contract-requires (put-reveal-callees t) (put-reveal-at t) put-reveal.Post
-put-reveal-put-contract-requires t c κs = (omega (arith, c .before .before .before .before .before .before .before .before .before .before .before .before .before .before .before .before .before .before .before .before .before .before .before .before .before .before .before .before .before .before .before .before .before .pre .0), (c .before .before .before .before .before .before .before .before .before .before .before .before .before .before .before .before .before .before .before .before .before .before .before .before .before .before .before .before .before .before .before .before .before .pre .1 .0, room-on _ (omega (arith, c .before .before .before .before .before .before .before .before .before .before .before .before .before .before .before .before .before .before .before .before .before .before .before .before .before .before .before .before .before .before .before .before .before .pre .1 .1 .long, long-on _ (c .before .before .before .before .before .before .before .put-condition .ensures) ∙ long-on _ (c .before .before .before .before .before .before .before .before .before .before .before .before .before .before .put-all-listed .ensures) ∙ long-on _ (c .before .before .before .before .before .before .before .before .before .before .before .before .before .before .before .before .before .before .before .before .before .put-field .ensures) ∙ long-on _ (c .before .before .before .before .before .before .before .before .before .before .before .before .before .before .before .before .before .before .before .before .before .before .before .before .before .before .before .before .put-letters .ensures))) (reveal-used _ _ _ _ _ _ _ _ _ _ (c .before .before .before .before .before .before .before .before .before .before .before .before .before .before .before .before .before .before .before .before .before .before .before .before .before .before .before .before .before .before .before .before .before .pre .1 .1 .small) (let e : 1 ≤ 2 = omega arith in e) (c .before .before .before .before .before .before .before .before .before .before .before .before .before .before .before .before .before .before .before .before .before .before .before .before .before .before .before .before .put-letters .ensures) (c .before .before .before .before .before .before .before .before .before .before .before .before .before .before .before .before .before .before .before .before .before .before .before .before .g .given .1) (c .before .before .before .before .before .before .before .before .before .before .before .before .before .before .before .before .before .before .before .before .before .put-field .ensures) (c .before .before .before .before .before .before .before .before .before .before .before .before .before .before .before .before .before .h .given .1) (c .before .before .before .before .before .before .before .before .before .before .before .before .before .before .put-all-listed .ensures) (c .before .before .before .before .before .before .before .before .before .before .i .given .1) (c .before .before .before .before .before .before .before .put-condition .ensures) (c .before .before .before .c .given .1) (c .before .branch-done .ensures)) refl))
+put-reveal-put-contract-requires t c κs =
+    let c3 = c .before .before .before in let c7 = c3 .before .before .before .before in let c10 = c7 .before .before .before in let c14 = c10 .before .before .before .before in let c17 = c14 .before .before .before in let c21 = c17 .before .before .before .before in let c24 = c21 .before .before .before in let c28 = c24 .before .before .before .before in let c33 = c28 .before .before .before .before .before in
+    (omega (arith, c33 .pre .0), (c33 .pre .1 .0, room-on _ (omega (arith, c33 .pre .1 .1 .long, long-on _ (c7 .put-condition .ensures) ∙ long-on _ (c14 .put-all-listed .ensures) ∙ long-on _ (c21 .put-field .ensures) ∙ long-on _ (c28 .put-letters .ensures))) (reveal-used _ _ _ _ _ _ _ _ _ _ (c33 .pre .1 .1 .small) (let e : 1 ≤ 2 = omega arith in e) (c28 .put-letters .ensures) (c24 .g .given .1) (c21 .put-field .ensures) (c17 .h .given .1) (c14 .put-all-listed .ensures) (c10 .i .given .1) (c7 .put-condition .ensures) (c3 .c .given .1) (c .before .branch-done .ensures)) refl))
 
 put-reveal-same-length-5 : (t : ℕ) → put-reveal-lts.Need-same-length-5 (put-reveal-callees t) (put-reveal-at t) put-reveal.Post
-put-reveal-same-length-5 t c = long-on _ (c .before .before .put-contract .ensures) ∙ long-on _ (c .before .before .before .before .before .before .before .before .before .before .put-condition .ensures) ∙ long-on _ (c .before .before .before .before .before .before .before .before .before .before .before .before .before .before .before .before .before .put-all-listed .ensures) ∙ long-on _ (c .before .before .before .before .before .before .before .before .before .before .before .before .before .before .before .before .before .before .before .before .before .before .before .before .put-field .ensures) ∙ long-on _ (c .before .before .before .before .before .before .before .before .before .before .before .before .before .before .before .before .before .before .before .before .before .before .before .before .before .before .before .before .before .before .before .put-letters .ensures)
+put-reveal-same-length-5 t c =
+    let c2 = c .before .before in let c10 = c2 .before .before .before .before .before .before .before .before in let c17 = c10 .before .before .before .before .before .before .before in let c24 = c17 .before .before .before .before .before .before .before in let c31 = c24 .before .before .before .before .before .before .before in
+    long-on _ (c2 .put-contract .ensures) ∙ long-on _ (c10 .put-condition .ensures) ∙ long-on _ (c17 .put-all-listed .ensures) ∙ long-on _ (c24 .put-field .ensures) ∙ long-on _ (c31 .put-letters .ensures)
 
 put-reveal-returns-5 : (t : ℕ) → put-reveal-lts.Need-returns-5 (put-reveal-callees t) (put-reveal-at t) put-reveal.Post
 unfolding revealText
-put-reveal-returns-5 t c = on-then _ _ _ _ (c .before .before .before .before .before .before .before .before .before .before .before .before .before .before .before .before .before .before .before .before .before .before .before .before .before .before .before .before .before .before .before .put-letters .ensures) (c .before .before .before .before .before .before .before .before .before .before .before .before .before .before .before .before .before .before .before .before .before .before .before .before .before .before .before .g .given .1) (on-then _ _ _ _ (c .before .before .before .before .before .before .before .before .before .before .before .before .before .before .before .before .before .before .before .before .before .before .before .before .put-field .ensures) (c .before .before .before .before .before .before .before .before .before .before .before .before .before .before .before .before .before .before .before .before .h .given .1) (on-then _ _ _ _ (c .before .before .before .before .before .before .before .before .before .before .before .before .before .before .before .before .before .put-all-listed .ensures) (c .before .before .before .before .before .before .before .before .before .before .before .before .before .i .given .1) (on-then _ _ _ _ (c .before .before .before .before .before .before .before .before .before .before .put-condition .ensures) (c .before .before .before .before .before .before .c .given .1) (on-then _ _ _ _ (reveal-used _ _ _ _ _ _ _ _ _ _ (c .before .before .before .before .before .before .before .before .before .before .before .before .before .before .before .before .before .before .before .before .before .before .before .before .before .before .before .before .before .before .before .before .before .before .before .before .pre .1 .1 .small) (let e : 1 ≤ 2 = omega arith in e) (c .before .before .before .before .before .before .before .before .before .before .before .before .before .before .before .before .before .before .before .before .before .before .before .before .before .before .before .before .before .before .before .put-letters .ensures) (c .before .before .before .before .before .before .before .before .before .before .before .before .before .before .before .before .before .before .before .before .before .before .before .before .before .before .before .g .given .1) (c .before .before .before .before .before .before .before .before .before .before .before .before .before .before .before .before .before .before .before .before .before .before .before .before .put-field .ensures) (c .before .before .before .before .before .before .before .before .before .before .before .before .before .before .before .before .before .before .before .before .h .given .1) (c .before .before .before .before .before .before .before .before .before .before .before .before .before .before .before .before .before .put-all-listed .ensures) (c .before .before .before .before .before .before .before .before .before .before .before .before .before .i .given .1) (c .before .before .before .before .before .before .before .before .before .before .put-condition .ensures) (c .before .before .before .before .before .before .c .given .1) (c .before .before .before .before .branch-done .ensures)) refl (c .before .before .put-contract .ensures)))))
+put-reveal-returns-5 t c =
+    let c2 = c .before .before in let c4 = c2 .before .before in let c6 = c4 .before .before in let c10 = c6 .before .before .before .before in let c13 = c10 .before .before .before in let c17 = c13 .before .before .before .before in let c20 = c17 .before .before .before in let c24 = c20 .before .before .before .before in let c27 = c24 .before .before .before in let c31 = c27 .before .before .before .before in let c36 = c31 .before .before .before .before .before in
+    on-then _ _ _ _ (c31 .put-letters .ensures) (c27 .g .given .1) (on-then _ _ _ _ (c24 .put-field .ensures) (c20 .h .given .1) (on-then _ _ _ _ (c17 .put-all-listed .ensures) (c13 .i .given .1) (on-then _ _ _ _ (c10 .put-condition .ensures) (c6 .c .given .1) (on-then _ _ _ _ (reveal-used _ _ _ _ _ _ _ _ _ _ (c36 .pre .1 .1 .small) (let e : 1 ≤ 2 = omega arith in e) (c31 .put-letters .ensures) (c27 .g .given .1) (c24 .put-field .ensures) (c20 .h .given .1) (c17 .put-all-listed .ensures) (c13 .i .given .1) (c10 .put-condition .ensures) (c6 .c .given .1) (c4 .branch-done .ensures)) refl (c2 .put-contract .ensures)))))
 
 abbrev put-split-Inv-loop : put-split-lts.InvT-loop
 put-split-Inv-loop t n depth out₀ cur₀ left₀ out cur left = ((r : Put) (v : List ℕ) → Puts out (cur .at) (repeat left (partText (held t) (contractText (held t) depth)) (due cur)) r v → Puts out₀ (cur₀ .at) (repeat left₀ (partText (held t) (contractText (held t) depth)) (due cur₀)) r v) × Room out cur × (length out ≡ length out₀)
@@ -346,7 +450,9 @@ put-split-slice-aggregate-put-leaf : (t : ℕ) → put-split-lts.Need-slice-aggr
 put-split-slice-aggregate-put-leaf t c = search needs
 
 put-split-put-leaf-requires : (t : ℕ) → put-split-lts.Need-put-leaf-requires (put-split-callees t) (put-split-at t) put-split.Post put-split-Inv-loop put-split-μ-loop
-put-split-put-leaf-requires t c κs = (c .before .before .before .before .pre .1 .1, omega arith)
+put-split-put-leaf-requires t c κs =
+    let c4 = c .before .before .before .before in
+    (c4 .pre .1 .1, omega arith)
 
 put-split-enum-known-g : (t : ℕ) → put-split-lts.Need-enum-known-g (put-split-callees t) (put-split-at t) put-split.Post put-split-Inv-loop put-split-μ-loop
 put-split-enum-known-g t c = search needs
@@ -355,20 +461,30 @@ put-split-enum-told : (t : ℕ) → put-split-lts.Need-enum-told (put-split-call
 put-split-enum-told t c = search needs
 
 put-split-same-length : (t : ℕ) → put-split-lts.Need-same-length (put-split-callees t) (put-split-at t) put-split.Post put-split-Inv-loop put-split-μ-loop
-put-split-same-length t c = long-on _ (c .before .before .before .before .put-leaf .ensures)
+put-split-same-length t c =
+    let c4 = c .before .before .before .before in
+    long-on _ (c4 .put-leaf .ensures)
 
 put-split-returns : (t : ℕ) → put-split-lts.Need-returns (put-split-callees t) (put-split-at t) put-split.Post put-split-Inv-loop put-split-μ-loop
 unfolding splitText
-put-split-returns t c = full-then _ _ _ (c .before .before .before .before .put-leaf .ensures) (c .enum-told .given .1)
+put-split-returns t c =
+    let c4 = c .before .before .before .before in
+    full-then _ _ _ (c4 .put-leaf .ensures) (c .enum-told .given .1)
 
 put-split-loop-holds : (t : ℕ) → put-split-lts.Need-loop-holds (put-split-callees t) (put-split-at t) put-split.Post put-split-Inv-loop put-split-μ-loop
-put-split-loop-holds t c = ((λ r v m. m), room-on _ (c .before .before .before .before .before .before .before .before .before .before .pre .1 .1 .long) (c .before .before .before .before .before .put-leaf .ensures) (c .before .g .given .1), refl)
+put-split-loop-holds t c =
+    let c5 = c .before .before .before .before .before in let c10 = c5 .before .before .before .before .before in
+    ((λ r v m. m), room-on _ (c10 .pre .1 .1 .long) (c5 .put-leaf .ensures) (c .before .g .given .1), refl)
 
 put-split-weight-of-requires : (t : ℕ) → put-split-lts.Need-weight-of-requires (put-split-callees t) (put-split-at t) put-split.Post put-split-Inv-loop put-split-μ-loop
-put-split-weight-of-requires t c κs = c .before .before .before .before .before .before .before .before .before .before .before .before .before .pre .1 .0
+put-split-weight-of-requires t c κs =
+    let c13 = c .before .before .before .before .before .before .before .before .before .before .before .before .before in
+    c13 .pre .1 .0
 
 put-split-put-field-requires : (t : ℕ) → put-split-lts.Need-put-field-requires (put-split-callees t) (put-split-at t) put-split.Post put-split-Inv-loop put-split-μ-loop
-put-split-put-field-requires t c κs = c .before .before .before .loop .inv .1
+put-split-put-field-requires t c κs =
+    let c3 = c .before .before .before in
+    c3 .loop .inv .1
 
 put-split-enum-known-h : (t : ℕ) → put-split-lts.Need-enum-known-h (put-split-callees t) (put-split-at t) put-split.Post put-split-Inv-loop put-split-μ-loop
 put-split-enum-known-h t c = search needs
@@ -377,14 +493,20 @@ put-split-enum-told-2 : (t : ℕ) → put-split-lts.Need-enum-told-2 (put-split-
 put-split-enum-told-2 t c = search needs
 
 put-split-same-length-2 : (t : ℕ) → put-split-lts.Need-same-length-2 (put-split-callees t) (put-split-at t) put-split.Post put-split-Inv-loop put-split-μ-loop
-put-split-same-length-2 t c = long-on _ (c .before .before .before .before .put-field .ensures) ∙ c .before .before .before .before .before .before .before .before .loop .inv .2 ∙ long-on _ (c .before .before .before .before .before .before .before .before .before .before .before .before .before .before .put-leaf .ensures)
+put-split-same-length-2 t c =
+    let c4 = c .before .before .before .before in let c8 = c4 .before .before .before .before in let c14 = c8 .before .before .before .before .before .before in
+    long-on _ (c4 .put-field .ensures) ∙ c8 .loop .inv .2 ∙ long-on _ (c14 .put-leaf .ensures)
 
 put-split-returns-2 : (t : ℕ) → put-split-lts.Need-returns-2 (put-split-callees t) (put-split-at t) put-split.Post put-split-Inv-loop put-split-μ-loop
 unfolding splitText
-put-split-returns-2 t c = on-then _ _ _ _ (c .before .before .before .before .before .before .before .before .before .before .before .before .before .before .put-leaf .ensures) (c .before .before .before .before .before .before .before .before .before .before .g .given .1) (c .before .before .before .before .before .before .before .before .loop .inv .0 _ _ (repeat-more _ _ _ (c .before .before .before .before .before .before .before .loop-test .taken) (full-then _ _ _ (part-by _ _ _ _ (c .before .before .before .before .before .weight-of .ensures) (full-then _ _ _ (c .before .before .before .before .put-field .ensures) (c .enum-told2 .given .1))) (c .enum-told2 .given .1))))
+put-split-returns-2 t c =
+    let c4 = c .before .before .before .before in let c5 = c4 .before in let c7 = c5 .before .before in let c8 = c7 .before in let c10 = c8 .before .before in let c14 = c10 .before .before .before .before in
+    on-then _ _ _ _ (c14 .put-leaf .ensures) (c10 .g .given .1) (c8 .loop .inv .0 _ _ (repeat-more _ _ _ (c7 .loop-test .taken) (full-then _ _ _ (part-by _ _ _ _ (c5 .weight-of .ensures) (full-then _ _ _ (c4 .put-field .ensures) (c .enum-told2 .given .1))) (c .enum-told2 .given .1))))
 
 put-split-put-contract-requires : (t : ℕ) → put-split-lts.Need-put-contract-requires (put-split-callees t) (put-split-at t) put-split.Post put-split-Inv-loop put-split-μ-loop
-put-split-put-contract-requires t c κs = (omega (arith, c .before .before .before .before .before .before .before .before .before .before .before .before .before .before .before .before .before .before .before .before .before .pre .0), (c .before .before .before .before .before .before .before .before .before .before .before .before .before .before .before .before .before .before .before .before .before .pre .1 .0, room-on _ (c .before .before .before .before .before .before .before .before .before .before .loop .inv .1 .long) (c .before .before .before .before .before .before .put-field .ensures) (c .before .before .h .given .1)))
+put-split-put-contract-requires t c κs =
+    let c2 = c .before .before in let c6 = c2 .before .before .before .before in let c10 = c6 .before .before .before .before in let c21 = c10 .before .before .before .before .before .before .before .before .before .before .before in
+    (omega (arith, c21 .pre .0), (c21 .pre .1 .0, room-on _ (c10 .loop .inv .1 .long) (c6 .put-field .ensures) (c2 .h .given .1)))
 
 put-split-enum-known-b : (t : ℕ) → put-split-lts.Need-enum-known-b (put-split-callees t) (put-split-at t) put-split.Post put-split-Inv-loop put-split-μ-loop
 put-split-enum-known-b t c = search needs
@@ -393,11 +515,15 @@ put-split-enum-told-3 : (t : ℕ) → put-split-lts.Need-enum-told-3 (put-split-
 put-split-enum-told-3 t c = search needs
 
 put-split-same-length-3 : (t : ℕ) → put-split-lts.Need-same-length-3 (put-split-callees t) (put-split-at t) put-split.Post put-split-Inv-loop put-split-μ-loop
-put-split-same-length-3 t c = long-on _ (c .before .before .before .before .put-contract .ensures) ∙ long-on _ (c .before .before .before .before .before .before .before .before .before .before .before .put-field .ensures) ∙ c .before .before .before .before .before .before .before .before .before .before .before .before .before .before .before .loop .inv .2 ∙ long-on _ (c .before .before .before .before .before .before .before .before .before .before .before .before .before .before .before .before .before .before .before .before .before .put-leaf .ensures)
+put-split-same-length-3 t c =
+    let c4 = c .before .before .before .before in let c11 = c4 .before .before .before .before .before .before .before in let c15 = c11 .before .before .before .before in let c21 = c15 .before .before .before .before .before .before in
+    long-on _ (c4 .put-contract .ensures) ∙ long-on _ (c11 .put-field .ensures) ∙ c15 .loop .inv .2 ∙ long-on _ (c21 .put-leaf .ensures)
 
 put-split-returns-3 : (t : ℕ) → put-split-lts.Need-returns-3 (put-split-callees t) (put-split-at t) put-split.Post put-split-Inv-loop put-split-μ-loop
 unfolding splitText
-put-split-returns-3 t c = on-then _ _ _ _ (c .before .before .before .before .before .before .before .before .before .before .before .before .before .before .before .before .before .before .before .before .before .put-leaf .ensures) (c .before .before .before .before .before .before .before .before .before .before .before .before .before .before .before .before .before .g .given .1) (c .before .before .before .before .before .before .before .before .before .before .before .before .before .before .before .loop .inv .0 _ _ (repeat-more _ _ _ (c .before .before .before .before .before .before .before .before .before .before .before .before .before .before .loop-test .taken) (full-then _ _ _ (part-by _ _ _ _ (c .before .before .before .before .before .before .before .before .before .before .before .before .weight-of .ensures) (on-then _ _ _ _ (c .before .before .before .before .before .before .before .before .before .before .before .put-field .ensures) (c .before .before .before .before .before .before .before .h .given .1) (c .before .before .before .before .put-contract .ensures))) (c .enum-told3 .given .1))))
+put-split-returns-3 t c =
+    let c4 = c .before .before .before .before in let c7 = c4 .before .before .before in let c11 = c7 .before .before .before .before in let c12 = c11 .before in let c14 = c12 .before .before in let c15 = c14 .before in let c17 = c15 .before .before in let c21 = c17 .before .before .before .before in
+    on-then _ _ _ _ (c21 .put-leaf .ensures) (c17 .g .given .1) (c15 .loop .inv .0 _ _ (repeat-more _ _ _ (c14 .loop-test .taken) (full-then _ _ _ (part-by _ _ _ _ (c12 .weight-of .ensures) (on-then _ _ _ _ (c11 .put-field .ensures) (c7 .h .given .1) (c4 .put-contract .ensures))) (c .enum-told3 .given .1))))
 
 put-split-sub-left : (t : ℕ) → put-split-lts.Need-sub-left (put-split-callees t) (put-split-at t) put-split.Post put-split-Inv-loop put-split-μ-loop
 put-split-sub-left t c = search needs
@@ -406,14 +532,20 @@ put-split-loop-less : (t : ℕ) → put-split-lts.Need-loop-less (put-split-call
 put-split-loop-less t c = search needs
 
 put-split-loop-again : (t : ℕ) → put-split-lts.Need-loop-again (put-split-callees t) (put-split-at t) put-split.Post put-split-Inv-loop put-split-μ-loop
-put-split-loop-again t c = ((λ r v m. c .before .before .before .before .before .before .before .before .before .before .before .before .before .before .before .before .loop .inv .0 _ _ (repeat-more _ _ _ (c .before .before .before .before .before .before .before .before .before .before .before .before .before .before .before .loop-test .taken) (on-then _ _ _ _ (part-by _ _ _ _ (c .before .before .before .before .before .before .before .before .before .before .before .before .before .weight-of .ensures) (on-then _ _ _ _ (c .before .before .before .before .before .before .before .before .before .before .before .before .put-field .ensures) (c .before .before .before .before .before .before .before .before .h .given .1) (c .before .before .before .before .before .put-contract .ensures))) (c .before .b .given .1) m))), room-on _ (omega (arith, c .before .before .before .before .before .before .before .before .before .before .before .before .before .before .before .before .loop .inv .1 .long, long-on _ (c .before .before .before .before .before .before .before .before .before .before .before .before .put-field .ensures))) (c .before .before .before .before .before .put-contract .ensures) (c .before .b .given .1), long-on _ (c .before .before .before .before .before .put-contract .ensures) ∙ long-on _ (c .before .before .before .before .before .before .before .before .before .before .before .before .put-field .ensures) ∙ c .before .before .before .before .before .before .before .before .before .before .before .before .before .before .before .before .loop .inv .2)
+put-split-loop-again t c =
+    let c5 = c .before .before .before .before .before in let c8 = c5 .before .before .before in let c12 = c8 .before .before .before .before in let c13 = c12 .before in let c15 = c13 .before .before in let c16 = c15 .before in
+    ((λ r v m. c16 .loop .inv .0 _ _ (repeat-more _ _ _ (c15 .loop-test .taken) (on-then _ _ _ _ (part-by _ _ _ _ (c13 .weight-of .ensures) (on-then _ _ _ _ (c12 .put-field .ensures) (c8 .h .given .1) (c5 .put-contract .ensures))) (c .before .b .given .1) m))), room-on _ (omega (arith, c16 .loop .inv .1 .long, long-on _ (c12 .put-field .ensures))) (c5 .put-contract .ensures) (c .before .b .given .1), long-on _ (c5 .put-contract .ensures) ∙ long-on _ (c12 .put-field .ensures) ∙ c16 .loop .inv .2)
 
 put-split-same-length-4 : (t : ℕ) → put-split-lts.Need-same-length-4 (put-split-callees t) (put-split-at t) put-split.Post put-split-Inv-loop put-split-μ-loop
-put-split-same-length-4 t c = c .before .loop .inv .2 ∙ long-on _ (c .before .before .before .before .before .before .before .put-leaf .ensures)
+put-split-same-length-4 t c =
+    let c7 = c .before .before .before .before .before .before .before in
+    c .before .loop .inv .2 ∙ long-on _ (c7 .put-leaf .ensures)
 
 put-split-returns-4 : (t : ℕ) → put-split-lts.Need-returns-4 (put-split-callees t) (put-split-at t) put-split.Post put-split-Inv-loop put-split-μ-loop
 unfolding splitText
-put-split-returns-4 t c = on-then _ _ _ _ (c .before .before .before .before .before .before .before .put-leaf .ensures) (c .before .before .before .g .given .1) (c .before .loop .inv .0 _ _ (repeat-none _ _ _ (c .loop-test .left) (stay _ _ (c .before .loop .inv .1 .small))))
+put-split-returns-4 t c =
+    let c3 = c .before .before .before in let c7 = c3 .before .before .before .before in
+    on-then _ _ _ _ (c7 .put-leaf .ensures) (c3 .g .given .1) (c .before .loop .inv .0 _ _ (repeat-none _ _ _ (c .loop-test .left) (stay _ _ (c .before .loop .inv .1 .small))))
 
 pub +put-branch+put-contract+put-reveal+put-split-spec : {M : Type 1} → statement M
 +put-branch+put-contract+put-reveal+put-split-spec =

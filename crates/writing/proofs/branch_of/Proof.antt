@@ -8,8 +8,6 @@ use native.Mathlib.Omega.{arith}
 use borrow.Author.Needs.{needs}
 use Rattle.writing.proofs.branch_of.Statement.{statement}
 use Rattle.writing.proofs.branch_of.Tie as tie
-use Rattle.writing.proofs.branch_of.Reads as reads
-use Rattle.writing.proofs.branch_of.Lts as lts
 
 shared-slice-read-if1 : tie.Need-shared-slice-read-if1
 shared-slice-read-if1 c = search needs
@@ -66,15 +64,19 @@ shared-slice-read-t26 : tie.Need-shared-slice-read-t26
 shared-slice-read-t26 c = search needs
 
 returns : tie.Need-returns
-returns c = let t = c .before .before .before .before .before .before .before .args .t .now in
-    let i = c .before .before .before .before .before .before .before .args .i in
+returns c =
+    let c7 = c .before .before .before .before .before .before .before in
+    let t = c7 .args .t .now in
+    let i = c7 .args .i in
     let e : branchIn t i ≡ branchEntryAt (held t) i = sym (branch-there t i (omega arith)) in
     let at : (j k : ℕ) → j ≡ k → getD t j 0 ≡ getD t k 0 = λ j k h. ap (λ l. getD t l 0) h in
     (at (2056 + 8 * i + 1) (2057 + 8 * i) (omega arith) ∙ ap (λ b. b .signers) e, at (2056 + 8 * i + 2) (2058 + 8 * i) (omega arith) ∙ ap (λ b. b .opens) e, at (2056 + 8 * i + 3) (2059 + 8 * i) (omega arith) ∙ ap (λ b. b .kind) e, at (2056 + 8 * i + 4) (2060 + 8 * i) (omega arith) ∙ ap (λ b. b .arg) e, at (2056 + 8 * i + 6) (2062 + 8 * i) (omega arith) ∙ ap (λ b. b .count) e)
 
 returns-2 : tie.Need-returns-2
-returns-2 c = let t = c .before .before .args .t .now in
-    let i = c .before .before .args .i in
+returns-2 c =
+    let c2 = c .before .before in
+    let t = c2 .args .t .now in
+    let i = c2 .args .i in
     let e = sym (branch-none t i (omega arith)) in
     (ap (λ b. b .signers) e, ap (λ b. b .opens) e, ap (λ b. b .kind) e, ap (λ b. b .arg) e, ap (λ b. b .count) e)
 

@@ -6,17 +6,14 @@ use native.Mathlib.Omega.{arith}
 use borrow.Author.Needs.{needs}
 use Rattle.writing.proofs.put_field.Statement.{statement}
 use Rattle.writing.proofs.put_field.Tie as tie
-use Rattle.writing.proofs.put_field.Reads as reads
-use Rattle.writing.proofs.put_field.Lts as lts
-use Rattle.texts.proofs.put_byte.Reads as put-byte-reads
-use Rattle.texts.proofs.put_number.Reads as put-number-reads
-use Rattle.writing.proofs.stand.Reads as stand-reads
 
 put-byte-requires : tie.Need-put-byte-requires
 put-byte-requires c κs = omega (arith, c .before .before .pre .long, c .before .before .pre .small .short)
 
 put-number-requires : tie.Need-put-number-requires
-put-number-requires c κs = omega (arith, c .before .before .before .before .before .before .pre .long, c .before .before .before .before .before .before .pre .small .short, c .before .before .before .put-byte .ensures .end, c .before .before .before .put-byte .ensures .long, decimal-most (c .before .before .before .before .before .before .args .n))
+put-number-requires c κs =
+    let c3 = c .before .before .before in let c6 = c3 .before .before .before in
+    omega (arith, c6 .pre .long, c6 .pre .small .short, c3 .put-byte .ensures .end, c3 .put-byte .ensures .long, decimal-most (c6 .args .n))
 
 stand-requires : tie.Need-stand-requires
 stand-requires c κs = search needs
@@ -26,7 +23,9 @@ same-length c = search needs
 
 returns : tie.Need-returns
 unfolding field
-returns c = say-puts _ _ _ (c .before .before .before .before .before .before .before .before .before .before .pre .small) (wrote-then (c .before .before .before .before .before .before .before .put-byte .ensures) (c .before .before .before .put-number .ensures)) (c .stand .ensures)
+returns c =
+    let c3 = c .before .before .before in let c7 = c3 .before .before .before .before in let c10 = c7 .before .before .before in
+    say-puts _ _ _ (c10 .pre .small) (wrote-then (c7 .put-byte .ensures) (c3 .put-number .ensures)) (c .stand .ensures)
 
 pub put-field-spec : {M : Type 1} → statement M
 put-field-spec =

@@ -3,8 +3,6 @@ use borrow.Author.Tests.{lt-ltb, le-ltb}
 use native.Mathlib.Omega.{arith}
 use Rattle.writing.proofs.stand.Statement.{statement}
 use Rattle.writing.proofs.stand.Tie as tie
-use Rattle.writing.proofs.stand.Reads as reads
-use Rattle.writing.proofs.stand.Lts as lts
 
 returns : tie.Need-returns
 unfolding stood

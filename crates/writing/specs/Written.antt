@@ -24,10 +24,12 @@ pub record Place : Type 0 where
 abbrev pub Writer : Type 0
 Writer = Place → List ℕ × Place
 
+-- These bytes
 unfoldable pub say : List ℕ → Writer
 say t p = (t, p)
 
 infixr 30 _then_
+-- One after the other; so many times
 unfoldable pub _then_ : Writer → Writer → Writer
 _then_ f g p = (f p .0 ++ g (f p .1) .0, g (f p .1) .1)
 
@@ -57,15 +59,18 @@ word w = code "," ∷ letters w
 
 -- ---- conditions: a cell for each field
 
+-- "`t`, or `and`,p,p, `not`,p, `eq`,e,e, `lt`,e,e": a cell that is none is written as the last, and is not read back
 unfoldable pub conditionWord : ℕ → List ℕ
 conditionWord c =
     cond (eqb c 0) (word "t") (cond (eqb c 1) (word "and") (cond (eqb c 2) (word "not") (cond (eqb c 3) (word "eq") (word "lt"))))
 
+-- "`k`,number .., `v`,secret, `add`,e,e, `sub`,e,e"
 unfoldable pub expressionWord : ℕ → List ℕ
 expressionWord c = cond (eqb c 0) (word "k") (cond (eqb c 1) (word "v") (cond (eqb c 2) (word "add") (word "sub")))
 
--- ---- "`w`,p", "`g`,d": a word and a number
+-- ---- contracts: what does not look at entries
 
+-- "`w`,p", "`g`,d", and how `s`,n begins: a word and a number, and the branch is used up
 unfoldable pub leafText : List ℕ → ℕ → Writer
 leafText w n = say w then say (field n) then branchDone
 
@@ -74,7 +79,7 @@ module _ (E : Entries) where
   unfoldable pub numberText : Writer
   numberText p = (say (field (cellAt E (p .cell))) then cellDone) p
 
-  -- What stands after the word of cell c
+  -- What stands after the word of an expression's cell c
   unfoldable pub operandsText : Writer → ℕ → Writer
   operandsText expression c = cond (eqb c 0) numberText (cond (eqb c 1) numberText (expression then expression))
 
@@ -84,11 +89,12 @@ module _ (E : Entries) where
   expressionText (suc d) p =
       (say (expressionWord (cellAt E (p .cell))) then cellDone then operandsText (expressionText d) (cellAt E (p .cell))) p
 
+  -- What stands after the word of a condition's cell c
   unfoldable pub clausesText : Writer → Writer → ℕ → Writer
   clausesText condition expression c =
       cond (eqb c 0) (say []) (cond (eqb c 1) (condition then condition) (cond (eqb c 2) condition (expression then expression)))
 
-  -- "condition"
+  -- "condition", with d words left to nest: "64 fields in a condition"
   unfoldable pub conditionText : ℕ → Writer
   conditionText zero p = ([], p)
   conditionText (suc d) p =
@@ -96,6 +102,7 @@ module _ (E : Entries) where
 
   -- ---- contracts
 
+  -- A deposit, an owner, a secret of an `r`: the listed number that is due
   unfoldable pub listedText : Writer
   listedText p = (say (field (listedAt E (p .listed))) then listedDone) p
 

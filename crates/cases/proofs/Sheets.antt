@@ -70,7 +70,7 @@ unfolding passed allPass refusedBy isText isNone ofWritten refusalTest loadTest 
     text.say text._then_ text.repeat text.nodeDone text.branchDone text.defDone text.listedDone text.cellDone text.conditionWord text.expressionWord text.leafText text.numberText text.operandsText text.expressionText text.clausesText text.conditionText text.listedText text.partText text.splitText text.revealText text.actionText text.branchText text.contractText text.defText text.sheetText
     writing.sameAll writing.sameNode writing.sameBranch writing.sameDef writing.sameEntries writing.readAs writing.writable writing.written
     saving.fitted saving.saving saving.replyOf saving.bytesOf
-    cases.node cases.branch cases.def cases.sheet cases.opening cases.pays cases.reveals cases.asks cases.splits cases.renews cases.ending cases.A cases.nodesA cases.branchesA cases.defsA cases.listedA cases.cellsA cases.entriesA cases.entriesW cases.laid cases.tableA cases.tableW cases.numbers cases.fromReading cases.rewritten cases.nodeIs cases.branchIs cases.defIs cases.listedIs cases.cellIs cases.fromWriting cases.marks
+    cases.node cases.branch cases.def cases.sheet cases.opening cases.pays cases.reveals cases.asks cases.splits cases.renews cases.ending cases.A cases.nodesA cases.branchesA cases.defsA cases.listedA cases.cellsA cases.entriesA cases.oneOf cases.entriesW cases.laid cases.tableA cases.B cases.tableB cases.tableW cases.numbers cases.fromReading cases.rewritten cases.nodeIs cases.branchIs cases.defIs cases.listedIs cases.cellIs cases.fromWriting cases.marks
 passing test cs = allPass test cs
 
 -- ---- what they show

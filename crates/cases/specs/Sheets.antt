@@ -78,9 +78,12 @@ cellsA = 1 ∷ 2 ∷ 3 ∷ 0 ∷ 9 ∷ 1 ∷ 0 ∷ 4 ∷ 2 ∷ 1 ∷ 1 ∷ 0 ∷
 unfoldable pub entriesA : Entries
 entriesA = sheet nodesA branchesA defsA listedA cellsA
 
--- the entries of W
+-- W with its entries as they are given: one node, one branch, one definition, one deposit; its own are those of `entriesW`
+unfoldable pub oneOf : NodeEntry → BranchEntry → DefEntry → ℕ → Entries
+oneOf n b d v = sheet (n ∷ []) (b ∷ []) (d ∷ []) (v ∷ []) []
+
 unfoldable pub entriesW : Entries
-entriesW = sheet (node 0 1024 0 1 ∷ []) (branch 0 0 0 0 0 0 0 0 ∷ []) (def 0 0 0 ∷ []) (1 ∷ []) []
+entriesW = oneOf (node 0 1024 0 1) (branch 0 0 0 0 0 0 0 0) (def 0 0 0) 1
 
 -- ---- tables
 
@@ -102,6 +105,17 @@ tableA n =
     ∷ (10344, 10 ∷ 20 ∷ 0 ∷ 1 ∷ 1 ∷ 0 ∷ 30 ∷ 0 ∷ 1 ∷ 0 ∷ [])
     ∷ (19304, 1 ∷ 2 ∷ 3 ∷ 0 ∷ 9 ∷ 1 ∷ 0 ∷ 4 ∷ 2 ∷ 1 ∷ 1 ∷ 0 ∷ 2 ∷ 3 ∷ 1 ∷ 0 ∷ 1 ∷ 1 ∷ 0 ∷ [])
     ∷ [])
+
+-- B is shorter and has two entries in every section: 69 bytes
+unfoldable pub B : List ℕ
+B = letters "bitml,1,2\ndef,7,1,0,c,2,0,0,r,1,0,lt,k,3,v,0,c,0,1,9,w,0\ndef,8,0,c,0\n"
+
+unfoldable pub tableB : ℕ → List ℕ
+tableB n =
+    laid 0 n
+    ((0, 1 ∷ 2 ∷ 3 ∷ 2 ∷ 4 ∷ 5 ∷ []) ∷ (8, 0 ∷ 1024 ∷ 0 ∷ 2 ∷ 0 ∷ 0 ∷ 0 ∷ 0 ∷ 1 ∷ 1024 ∷ 0 ∷ 0 ∷ [])
+    ∷ (2056, 0 ∷ 0 ∷ 0 ∷ 2 ∷ 1 ∷ 2 ∷ 1 ∷ 0 ∷ 0 ∷ 1 ∷ 9 ∷ 0 ∷ 0 ∷ 0 ∷ 0 ∷ 0 ∷ []) ∷ (10248, 0 ∷ 0 ∷ 1 ∷ 2 ∷ 3 ∷ 0 ∷ [])
+    ∷ (10344, 7 ∷ 0 ∷ 0 ∷ 8 ∷ []) ∷ (19304, 4 ∷ 0 ∷ 3 ∷ 1 ∷ 0 ∷ []) ∷ [])
 
 -- that of W: the header, the root's 1,024 and count, and a deposit
 unfoldable pub tableW : ℕ → List ℕ
@@ -137,10 +151,8 @@ Refusal = List ℕ × ℕ × ℕ × ℕ × ℕ
 unfoldable pub refusals : List Refusal
 refusals =
     -- "1, then short buffers, come first": 52,072 cells are enough
-    (copies 65537 (letters "x"), 52072, 1, 0, 0)
-    ∷ (copies 65537 (letters "x"), 52071, 1, 0, 0)
+    (copies 65537 (letters "x"), 52071, 1, 0, 0)
     ∷ (copies 65536 (letters "x"), 52071, 7, 0, 0)
-    ∷ (copies 65536 (letters "x"), 52072, 3, 1, 1)
     ∷ (W, 52071, 7, 0, 0)
     ∷ (W, 0, 7, 0, 0)
     ∷ ([], 52071, 7, 0, 0)
@@ -193,7 +205,6 @@ loads =
     ∷ (W, 52074, 0 ∷ 0 ∷ 0 ∷ 30 ∷ tableW 52074)
     -- "wholly zero after a refusal"
     ∷ (W ++ letters "x", 52073, 9 ∷ 3 ∷ 1 ∷ 0 ∷ laid 0 52073 [])
-    ∷ (W, 52071, 7 ∷ 0 ∷ 0 ∷ 0 ∷ laid 0 52071 [])
     ∷ (W, 2, 7 ∷ 0 ∷ 0 ∷ 0 ∷ 0 ∷ 0 ∷ [])
     ∷ (W, 0, 7 ∷ 0 ∷ 0 ∷ 0 ∷ [])
     ∷ []
@@ -206,11 +217,9 @@ rewritten (refused n l f) = none
 
 unfoldable pub texts : List (List ℕ)
 texts =
-    A ∷ N ∷ W ∷ T ∷ M ∷ D ∷ R ∷ tie
+    N ∷ T ∷ M ∷ D ∷ R ∷ tie ∷ B
     -- 16 participants, all of whom sign; the latest opening time
     ∷ (letters "bitml,16,1\ndef" ++ copies 16 (letters ",0") ++ letters ",0,c,1,65535,4294967295,w,15\n")
-    -- 32 definitions
-    ∷ (letters "bitml,1,32\n" ++ copies 32 (letters "def,1,0,c,0\n"))
     -- the largest deposits, 8 secrets, and an `r` that lists all of them
     ∷ letters "bitml,2,1\ndef,2099999999999999,1,8,0,1,0,1,0,1,0,1,c,1,0,0,r,8,7,5,6,3,4,1,2,0,t,c,0\n"
     -- 16 branches
@@ -253,18 +262,19 @@ writes =
     -- weights of parts
     ∷ (2, nodeIs 2 (node 0 2 0 0), opening ++ pays ++ reveals ++ asks ++ letters "c,1,0,0,s,2,0,c,0,4,c,0," ++ renews ++ ending)
     ∷ (2, nodeIs 3 (node 0 2 1000 0), opening ++ pays ++ reveals ++ asks ++ letters "c,1,0,0,s,2,3,c,0,1000,c,0," ++ renews ++ ending)
-    -- signers, opening time, payee; a payment made a renewal
-    ∷ (2, branchIs 0 (branch 0 3 5 0 1 0 0 0), opening ++ letters "3,5,w,1," ++ reveals ++ asks ++ splits ++ renews ++ ending)
-    ∷ (2, branchIs 0 (branch 0 1 4294967295 0 1 0 0 0), opening ++ letters "1,4294967295,w,1," ++ reveals ++ asks ++ splits ++ renews ++ ending)
-    ∷ (2, branchIs 0 (branch 0 1 5 0 0 0 0 0), opening ++ letters "1,5,w,0," ++ reveals ++ asks ++ splits ++ renews ++ ending)
-    ∷ (2, branchIs 0 (branch 0 1 5 3 1 0 0 0), opening ++ letters "1,5,g,1," ++ reveals ++ asks ++ splits ++ renews ++ ending)
+    -- signers, opening time, payee, definition; a payment made a renewal, and the other way round
+    ∷ (1, oneOf (node 0 1024 0 1) (branch 0 1 0 0 0 0 0 0) (def 0 0 0) 1, letters "bitml,1,1\ndef,1,0,c,1,1,0,w,0\n")
+    ∷ (1, oneOf (node 0 1024 0 1) (branch 0 0 4294967295 0 0 0 0 0) (def 0 0 0) 1, letters "bitml,1,1\ndef,1,0,c,1,0,4294967295,w,0\n")
+    ∷ (1, oneOf (node 0 1024 0 1) (branch 0 0 0 3 0 0 0 0) (def 0 0 0) 1, letters "bitml,1,1\ndef,1,0,c,1,0,0,g,0\n")
+    ∷ (2, branchIs 0 (branch 0 3 50 0 0 0 0 0), opening ++ letters "3,50,w,0," ++ reveals ++ asks ++ splits ++ renews ++ ending)
     ∷ (2, branchIs 1 (branch 0 0 70 2 1 4 2 0), opening ++ pays ++ letters "0,70,r,2,1,0," ++ asks ++ splits ++ renews ++ ending)
     ∷ (2, branchIs 2 (branch 1 2 1 1 2 0 0 0), opening ++ pays ++ reveals ++ asks ++ letters "c,1,2,1,s,2,3,c,0,4,c,0," ++ renews ++ ending)
     ∷ (2, branchIs 3 (branch 0 2 0 3 0 0 0 0), opening ++ pays ++ reveals ++ asks ++ splits ++ letters "2,0,g,0\n" ++ ending)
     ∷ (2, branchIs 3 (branch 0 2 0 0 1 0 0 0), opening ++ pays ++ reveals ++ asks ++ splits ++ letters "2,0,w,1\n" ++ ending)
     -- deposits up to the limit, an owner, secrets in another order
+    ∷ (1, oneOf (node 0 1024 0 1) (branch 0 0 0 0 0 0 0 0) (def 0 0 0) 0, letters "bitml,1,1\ndef,0,0,c,1,0,0,w,0\n")
+    ∷ (1, oneOf (node 0 1024 0 1) (branch 0 0 0 0 0 0 0 0) (def 0 0 0) 2100000000000000, letters "bitml,1,1\ndef,2100000000000000,0,c,1,0,0,w,0\n")
     ∷ (2, listedIs 0 2099999999999980, letters "bitml,2,2\ndef,2099999999999980,20,2,0,1,c,3," ++ pays ++ reveals ++ asks ++ splits ++ renews ++ ending)
-    ∷ (2, listedIs 1 0, letters "bitml,2,2\ndef,10,0,2,0,1,c,3," ++ pays ++ reveals ++ asks ++ splits ++ renews ++ ending)
     ∷ (2, listedIs 3 0, letters "bitml,2,2\ndef,10,20,2,0,0,c,3," ++ pays ++ reveals ++ asks ++ splits ++ renews ++ ending)
     ∷ (2, listedIs 7 100, opening ++ pays ++ reveals ++ asks ++ splits ++ renews ++ letters "def,30,100,1,1,c,1,0,0,r,1,0,t,c,0\n")
     ∷ (
@@ -289,63 +299,61 @@ Unwritten = ℕ × Entries
 unfoldable pub unwritten : List Unwritten
 unwritten =
     -- K
-    (0, entriesA)
-    ∷ (1, entriesA)
-    ∷ (3, entriesA)
-    ∷ (0, entriesW)
+    (0, entriesW)
     ∷ (2, entriesW)
     ∷ (17, sheet (node 0 1024 0 0 ∷ []) [] (def 0 0 0 ∷ []) (replicate 17 0) [])
+    ∷ (1, entriesA)
+    ∷ (3, entriesA)
     -- a node's definition
-    ∷ (2, nodeIs 0 (node 1 1024 0 3))
+    ∷ (1, oneOf (node 1 1024 0 1) (branch 0 0 0 0 0 0 0 0) (def 0 0 0) 1)
     ∷ (2, nodeIs 2 (node 1 2 3 0))
     ∷ (2, nodeIs 4 (node 0 1024 0 1))
     ∷ (2, nodeIs 5 (node 0 4 0 0))
     -- its parent: a root has 1,024, any other the branch that holds it
-    ∷ (2, nodeIs 0 (node 0 0 0 3))
-    ∷ (2, nodeIs 0 (node 0 1023 0 3))
-    ∷ (2, nodeIs 0 (node 0 1025 0 3))
+    ∷ (1, oneOf (node 0 0 0 1) (branch 0 0 0 0 0 0 0 0) (def 0 0 0) 1)
+    ∷ (1, oneOf (node 0 1023 0 1) (branch 0 0 0 0 0 0 0 0) (def 0 0 0) 1)
+    ∷ (1, oneOf (node 0 1025 0 1) (branch 0 0 0 0 0 0 0 0) (def 0 0 0) 1)
     ∷ (2, nodeIs 1 (node 0 0 0 1))
     ∷ (2, nodeIs 1 (node 0 1024 0 1))
     ∷ (2, nodeIs 3 (node 0 1 4 0))
-    ∷ (2, nodeIs 3 (node 0 3 4 0))
     ∷ (2, nodeIs 5 (node 1 3 0 0))
     -- its weight: 0 for a root and for the contract of an `r`; up to 1,000, and not all 0
-    ∷ (2, nodeIs 0 (node 0 1024 1 3))
+    ∷ (1, oneOf (node 0 1024 1 1) (branch 0 0 0 0 0 0 0 0) (def 0 0 0) 1)
     ∷ (2, nodeIs 1 (node 0 1 1 1))
     ∷ (2, nodeIs 3 (node 0 2 1001 0))
     ∷ (2, sheet (node 0 1024 0 3 ∷ node 0 1 0 1 ∷ node 0 2 0 0 ∷ node 0 2 0 0 ∷ node 1 1024 0 1 ∷ node 1 4 0 0 ∷ []) branchesA defsA listedA cellsA)
     -- its count of branches
+    ∷ (1, oneOf (node 0 1024 0 0) (branch 0 0 0 0 0 0 0 0) (def 0 0 0) 1)
+    ∷ (1, oneOf (node 0 1024 0 2) (branch 0 0 0 0 0 0 0 0) (def 0 0 0) 1)
     ∷ (2, nodeIs 0 (node 0 1024 0 2))
-    ∷ (2, nodeIs 0 (node 0 1024 0 4))
     ∷ (2, nodeIs 2 (node 0 2 3 1))
-    ∷ (2, nodeIs 4 (node 1 1024 0 0))
-    ∷ (2, nodeIs 5 (node 1 4 0 17))
     -- a branch's node
-    ∷ (2, branchIs 0 (branch 1 1 5 0 1 0 0 0))
+    ∷ (1, oneOf (node 0 1024 0 1) (branch 1 0 0 0 0 0 0 0) (def 0 0 0) 1)
     ∷ (2, branchIs 2 (branch 0 0 0 1 2 0 0 0))
     ∷ (2, branchIs 3 (branch 1 2 0 3 1 0 0 0))
     ∷ (2, branchIs 4 (branch 5 0 0 2 5 9 1 18))
     -- its signers: below 2^K
+    ∷ (1, oneOf (node 0 1024 0 1) (branch 0 2 0 0 0 0 0 0) (def 0 0 0) 1)
     ∷ (2, branchIs 0 (branch 0 4 5 0 1 0 0 0))
-    ∷ (2, branchIs 3 (branch 0 65536 0 3 1 0 0 0))
     -- its opening time
-    ∷ (2, branchIs 0 (branch 0 1 4294967296 0 1 0 0 0))
+    ∷ (1, oneOf (node 0 1024 0 1) (branch 0 0 4294967296 0 0 0 0 0) (def 0 0 0) 1)
     -- its kind: another action has other numbers, and there are four
-    ∷ (2, branchIs 0 (branch 0 1 5 1 1 0 0 0))
-    ∷ (2, branchIs 0 (branch 0 1 5 2 1 0 0 0))
+    ∷ (1, oneOf (node 0 1024 0 1) (branch 0 0 0 1 0 0 0 0) (def 0 0 0) 1)
+    ∷ (1, oneOf (node 0 1024 0 1) (branch 0 0 0 2 0 0 0 0) (def 0 0 0) 1)
+    ∷ (1, oneOf (node 0 1024 0 1) (branch 0 0 0 4 0 0 0 0) (def 0 0 0) 1)
     ∷ (2, branchIs 1 (branch 0 3 7 0 1 4 2 0))
     ∷ (2, branchIs 1 (branch 0 3 7 1 1 4 2 0))
     ∷ (2, branchIs 2 (branch 1 0 0 2 2 0 0 0))
-    ∷ (2, branchIs 3 (branch 0 2 0 4 1 0 0 0))
-    -- its argument: a participant, a count of parts, the next node, a definition
+    -- its argument: a participant, a definition, a count of parts, the next node
+    ∷ (1, oneOf (node 0 1024 0 1) (branch 0 0 0 0 1 0 0 0) (def 0 0 0) 1)
+    ∷ (1, oneOf (node 0 1024 0 1) (branch 0 0 0 3 1 0 0 0) (def 0 0 0) 1)
     ∷ (2, branchIs 0 (branch 0 1 5 0 2 0 0 0))
-    ∷ (2, branchIs 2 (branch 1 0 0 1 0 0 0 0))
+    ∷ (2, branchIs 3 (branch 0 2 0 3 2 0 0 0))
     ∷ (2, branchIs 2 (branch 1 0 0 1 1 0 0 0))
     ∷ (2, branchIs 2 (branch 1 0 0 1 3 0 0 0))
     ∷ (2, branchIs 1 (branch 0 3 7 2 0 4 2 0))
     ∷ (2, branchIs 1 (branch 0 3 7 2 2 4 2 0))
-    ∷ (2, branchIs 3 (branch 0 2 0 3 2 0 0 0))
-    -- its first, count and condition: those of an `r` follow from what stands before; any other has 0
+    -- its first, count and condition: those of an `r` follow from what stands before
     ∷ (2, branchIs 1 (branch 0 3 7 2 1 3 2 0))
     ∷ (2, branchIs 1 (branch 0 3 7 2 1 5 2 0))
     ∷ (2, branchIs 1 (branch 0 3 7 2 1 4 0 0))
@@ -353,28 +361,28 @@ unwritten =
     ∷ (2, branchIs 1 (branch 0 3 7 2 1 4 3 0))
     ∷ (2, branchIs 1 (branch 0 3 7 2 1 4 2 1))
     ∷ (2, branchIs 4 (branch 4 0 0 2 5 9 1 0))
-    ∷ (2, branchIs 0 (branch 0 1 5 0 1 1 0 0))
-    ∷ (2, branchIs 0 (branch 0 1 5 0 1 0 1 0))
-    ∷ (2, branchIs 0 (branch 0 1 5 0 1 0 0 1))
+    -- any other action has 0
+    ∷ (1, oneOf (node 0 1024 0 1) (branch 0 0 0 0 0 1 0 0) (def 0 0 0) 1)
+    ∷ (1, oneOf (node 0 1024 0 1) (branch 0 0 0 0 0 0 1 0) (def 0 0 0) 1)
+    ∷ (1, oneOf (node 0 1024 0 1) (branch 0 0 0 0 0 0 0 1) (def 0 0 0) 1)
+    ∷ (1, oneOf (node 0 1024 0 1) (branch 0 0 0 3 0 1 0 0) (def 0 0 0) 1)
+    ∷ (1, oneOf (node 0 1024 0 1) (branch 0 0 0 3 0 0 1 0) (def 0 0 0) 1)
+    ∷ (1, oneOf (node 0 1024 0 1) (branch 0 0 0 3 0 0 0 1) (def 0 0 0) 1)
     ∷ (2, branchIs 2 (branch 1 0 0 1 2 1 0 0))
     ∷ (2, branchIs 2 (branch 1 0 0 1 2 0 1 0))
     ∷ (2, branchIs 2 (branch 1 0 0 1 2 0 0 1))
-    ∷ (2, branchIs 3 (branch 0 2 0 3 1 1 0 0))
-    ∷ (2, branchIs 3 (branch 0 2 0 3 1 0 1 0))
-    ∷ (2, branchIs 3 (branch 0 2 0 3 1 0 0 1))
     -- a definition's root, first and count of secrets
-    ∷ (2, defIs 0 (def 1 0 2))
+    ∷ (1, oneOf (node 0 1024 0 1) (branch 0 0 0 0 0 0 0 0) (def 1 0 0) 1)
     ∷ (2, defIs 1 (def 0 6 1))
     ∷ (2, defIs 1 (def 5 6 1))
-    ∷ (2, defIs 0 (def 0 1 2))
+    ∷ (1, oneOf (node 0 1024 0 1) (branch 0 0 0 0 0 0 0 0) (def 0 1 0) 1)
     ∷ (2, defIs 1 (def 4 0 1))
     ∷ (2, defIs 1 (def 4 7 1))
+    ∷ (1, oneOf (node 0 1024 0 1) (branch 0 0 0 0 0 0 0 0) (def 0 0 1) 1)
     ∷ (2, defIs 0 (def 0 0 1))
     ∷ (2, defIs 0 (def 0 0 3))
-    ∷ (2, defIs 1 (def 4 6 0))
-    ∷ (2, defIs 1 (def 4 6 9))
     -- a deposit or all together past the limit, an owner that is no participant, a secret twice or not there
-    ∷ (2, listedIs 0 2100000000000001)
+    ∷ (1, oneOf (node 0 1024 0 1) (branch 0 0 0 0 0 0 0 0) (def 0 0 0) 2100000000000001)
     ∷ (2, listedIs 0 2099999999999981)
     ∷ (2, listedIs 3 2)
     ∷ (2, listedIs 4 0)
@@ -385,7 +393,6 @@ unwritten =
     ∷ (2, cellIs 0 0)
     ∷ (2, cellIs 0 2)
     ∷ (2, cellIs 0 5)
-    ∷ (2, cellIs 1 1)
     ∷ (2, cellIs 7 5)
     ∷ (2, cellIs 8 0)
     ∷ (2, cellIs 13 4)
@@ -399,13 +406,15 @@ unwritten =
     ∷ (2, sheet nodesA branchesA (defsA ++ (def 6 10 0 ∷ [])) listedA cellsA)
     ∷ (2, sheet nodesA branchesA defsA (listedA ++ (0 ∷ [])) cellsA)
     ∷ (2, sheet nodesA branchesA defsA listedA (cellsA ++ (0 ∷ [])))
-    -- the last entry less: of nodes, listed numbers and cells it had the numbers that are found where there is none
-    ∷ (2, sheet (node 0 1024 0 3 ∷ node 0 1 0 1 ∷ node 0 2 3 0 ∷ node 0 2 4 0 ∷ node 1 1024 0 1 ∷ []) branchesA defsA listedA cellsA)
+    -- the last entry less: where it had zeros, the text is the same
+    ∷ (1, sheet [] [] (def 0 0 0 ∷ []) (1 ∷ []) [])
     ∷ (1, sheet (node 0 1024 0 1 ∷ []) [] (def 0 0 0 ∷ []) (1 ∷ []) [])
+    ∷ (1, sheet (node 0 1024 0 1 ∷ []) (branch 0 0 0 0 0 0 0 0 ∷ []) [] (1 ∷ []) [])
+    ∷ (1, sheet (node 0 1024 0 1 ∷ []) (branch 0 0 0 0 0 0 0 0 ∷ []) (def 0 0 0 ∷ []) [] [])
+    ∷ (1, sheet [] [] [] [] [])
     ∷ (2, sheet nodesA branchesA (def 0 0 2 ∷ []) listedA cellsA)
     ∷ (2, sheet nodesA branchesA defsA (10 ∷ 20 ∷ 0 ∷ 1 ∷ 1 ∷ 0 ∷ 30 ∷ 0 ∷ 1 ∷ []) cellsA)
     ∷ (2, sheet nodesA branchesA defsA listedA (1 ∷ 2 ∷ 3 ∷ 0 ∷ 9 ∷ 1 ∷ 0 ∷ 4 ∷ 2 ∷ 1 ∷ 1 ∷ 0 ∷ 2 ∷ 3 ∷ 1 ∷ 0 ∷ 1 ∷ 1 ∷ []))
-    ∷ (1, sheet [] [] [] [] [])
     ∷ []
 
 -- ---- what comes back from writing a table into a buffer, and every byte of the buffer
@@ -423,31 +432,24 @@ Save = List ℕ × List ℕ × List ℕ
 unfoldable pub saves : List Save
 saves =
     -- "the count of bytes written is returned": a buffer that is exactly long enough
-    (tableA 52072, marks 161, 0 ∷ 0 ∷ 0 ∷ 161 ∷ A)
-    ∷ (tableW 52072, marks 30, 0 ∷ 0 ∷ 0 ∷ 30 ∷ W)
-    -- "Bytes after the written ones keep what they held"
-    ∷ (tableW 52072, marks 33, 0 ∷ 0 ∷ 0 ∷ 30 ∷ W ++ marks 3)
+    (tableB 52072, marks 69, 0 ∷ 0 ∷ 0 ∷ 69 ∷ B)
     -- "20 .. when the buffer is too short", by one byte; "every byte of the buffer then keeps what it held"
     ∷ (tableW 52072, marks 29, 20 ∷ 0 ∷ 0 ∷ 0 ∷ marks 29)
-    ∷ (tableW 52072, [], 20 ∷ 0 ∷ 0 ∷ 0 ∷ [])
-    -- "refused first, as 3": a root with another parent than 1,024, in a buffer that is long enough and in one that is not
-    ∷ (laid 0 52072 ((0, 1 ∷ 1 ∷ 1 ∷ 1 ∷ 1 ∷ 0 ∷ []) ∷ (11, 1 ∷ []) ∷ (10344, 1 ∷ []) ∷ []), marks 30, 3 ∷ 0 ∷ 0 ∷ 0 ∷ marks 30)
-    ∷ (laid 0 52072 ((0, 1 ∷ 1 ∷ 1 ∷ 1 ∷ 1 ∷ 0 ∷ []) ∷ (11, 1 ∷ []) ∷ (10344, 1 ∷ []) ∷ []), marks 29, 3 ∷ 0 ∷ 0 ∷ 0 ∷ marks 29)
-    -- a table of zeros, one that is a cell short, none at all
-    ∷ (laid 0 52072 [], marks 2, 3 ∷ 0 ∷ 0 ∷ 0 ∷ marks 2)
-    ∷ (tableW 52071, marks 30, 3 ∷ 0 ∷ 0 ∷ 0 ∷ marks 30)
-    ∷ (tableW 52071, [], 3 ∷ 0 ∷ 0 ∷ 0 ∷ [])
-    ∷ ([], [], 3 ∷ 0 ∷ 0 ∷ 0 ∷ [])
-    -- a count past its section: 33 definitions
-    ∷ (laid 0 52072 ((0, 1 ∷ 33 ∷ 1 ∷ 1 ∷ 1 ∷ 0 ∷ []) ∷ (9, 1024 ∷ 0 ∷ 1 ∷ []) ∷ (10344, 1 ∷ []) ∷ []), marks 30, 3 ∷ 0 ∷ 0 ∷ 0 ∷ marks 30)
-    -- numbers past what is held are not looked at: two of the header, one of each section, one past the table
+    -- "Bytes after the written ones keep what they held". Numbers past what is held are not looked at: two of the header, one of each
+    -- section, one past the table
     ∷ (
       laid 0 52073
           ((0, 1 ∷ 1 ∷ 1 ∷ 1 ∷ 1 ∷ 0 ∷ 7 ∷ 7 ∷ []) ∷ (9, 1024 ∷ 0 ∷ 1 ∷ 7 ∷ []) ∷ (2064, 7 ∷ []) ∷ (10251, 7 ∷ []) ∷ (10344, 1 ∷ 7 ∷ []) ∷ (19304, 7 ∷ [])
           ∷ (52072, 7 ∷ []) ∷ []),
-      marks 30,
-      0 ∷ 0 ∷ 0 ∷ 30 ∷ W,
+      marks 33,
+      0 ∷ 0 ∷ 0 ∷ 30 ∷ W ++ marks 3,
     )
+    -- "refused first, as 3": a root with another parent than 1,024, in a buffer that is too short as well
+    ∷ (laid 0 52072 ((0, 1 ∷ 1 ∷ 1 ∷ 1 ∷ 1 ∷ 0 ∷ []) ∷ (11, 1 ∷ []) ∷ (10344, 1 ∷ []) ∷ []), marks 29, 3 ∷ 0 ∷ 0 ∷ 0 ∷ marks 29)
+    -- a table of zeros, one that is a cell short, none at all
+    ∷ (laid 0 52072 [], marks 30, 3 ∷ 0 ∷ 0 ∷ 0 ∷ marks 30)
+    ∷ (tableW 52071, marks 30, 3 ∷ 0 ∷ 0 ∷ 0 ∷ marks 30)
+    ∷ ([], [], 3 ∷ 0 ∷ 0 ∷ 0 ∷ [])
     ∷ []
 
 -- THE PROPOSITION: from each text, from each sheet and from each table comes what is due

@@ -56,13 +56,16 @@ unfoldable pub laidOut : List ℕ → (List ℕ → Bool) → Bool
 laidOut [] test = test []
 laidOut (b ∷ t) test = laidOut t (λ u. test (b ∷ u))
 
-unfoldable pub allPrinted : List Case → Bool
-allPrinted [] = true
-allPrinted (c ∷ cs) = laidOut (c .0) (λ t. sameText (printedFor t) (c .1)) & allPrinted cs
+unfoldable pub printTest : Case → Bool
+printTest c = laidOut (c .0) (λ t. sameText (printedFor t) (c .1))
+
+unfoldable pub allPass : {A : Type 0} → (A → Bool) → List A → Bool
+allPass test [] = true
+allPass test (c ∷ cs) = test c & allPass test cs
 
 -- the test with all that it takes to compute it: whoever opens this opens these
 unfoldable pub passed : List Case → Bool
-unfolding allPrinted laidOut sameText copies byte T M D R N W tie printedFor textIn refusedIn answerTo early judged answerFor
+unfolding allPass printTest laidOut sameText copies byte T M D R N W tie printedFor textIn refusedIn answerTo early judged answerFor
     field.fieldLen field.textAt field.endAt field.allDigits field.digitsOn field.digitsOf field.numberOf field.numberAt field.packed field.packedOf field.wordFrom field.wordAt field.firstAt field.lineEndAt field.whenRead field.belowAt field.betweenAt
     places.stepOf places.walk places.placeOf places.markOf places.lastFrom places.passingOf
     tables.branchNumbers tables.partNumbers tables.pickE tables.readE tables.pickC tables.readC tables.condAt tables.actionOf tables.branchOf tables.nodeOf tables.defOf tables.sheetOf
@@ -83,7 +86,7 @@ unfolding allPrinted laidOut sameText copies byte T M D R N W tie printedFor tex
     rows.repeated rows.rowFault rows.faulty rows.check
     rule.costOf rule.cost rule.better rule.choose rule.choices rule.choiceAt rule.round rule.rounds rule.reached rule.rowFor rule.rows rule.stuck rule.make
     text.digits text.decimal text.field text.fields text.line text.lineText text.linesText
-passed cs = allPrinted cs
+passed cs = allPass printTest cs
 
 -- ---- what it shows
 
@@ -99,15 +102,18 @@ unfolding laidOut
 laid-out [] test = refl
 laid-out (b ∷ t) test = laid-out t (λ u. test (b ∷ u))
 
-pub all-printed : (cs : List Case) → allPrinted cs ≡ true → All (λ (c : Case). printedFor (c .0) ≡ c .1) cs
-unfolding allPrinted
-all-printed [] h = nil
-all-printed (c ∷ cs) h =
-    cons (same-text _ _ (sym (laid-out (c .0) (λ t. sameText (printedFor t) (c .1))) ∙ and-l _ _ h)) (all-printed cs (and-r _ _ h))
+pub by-pass : {A : Type 0} (test : A → Bool) (Q : A → Type 0) → ((c : A) → test c ≡ true → Q c) → (cs : List A) → allPass test cs ≡ true → All Q cs
+unfolding allPass
+by-pass test Q shows [] h = nil
+by-pass test Q shows (c ∷ cs) h = cons (shows c (and-l _ _ h)) (by-pass test Q shows cs (and-r _ _ h))
+
+pub print-test : (c : Case) → printTest c ≡ true → printedFor (c .0) ≡ c .1
+unfolding printTest
+print-test c h = same-text _ _ (sym (laid-out (c .0) (λ t. sameText (printedFor t) (c .1))) ∙ h)
 
 pub by-test : (cs : List Case) → passed cs ≡ true → All (λ (c : Case). printedFor (c .0) ≡ c .1) cs
 unfolding passed
-by-test cs h = all-printed cs h
+by-test cs h = by-pass printTest (λ c. printedFor (c .0) ≡ c .1) print-test cs h
 
 -- ---- it holds, by computing: section by section, since a proof may take so many steps and no more
 

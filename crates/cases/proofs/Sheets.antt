@@ -17,7 +17,7 @@ use Rattle.writing.specs.Written as text
 use Rattle.writing.specs.Writable as writing
 use Rattle.saving.specs.Saving as saving
 use Rattle.cases.specs.Sheets as cases
-use Rattle.cases.proofs.Cases.{sameText, same-text, laidOut, laid-out, passed}
+use Rattle.cases.proofs.Cases.{sameText, same-text, laidOut, laid-out, allPass, by-pass, passed}
 
 -- ---- the tests
 
@@ -57,28 +57,19 @@ unwrittenTest c = ofWritten isNone (c .0) (c .1)
 unfoldable pub saveTest : cases.Save → Bool
 saveTest c = sameText (cases.fromWriting (c .0) (c .1)) (c .2)
 
-unfoldable pub allPass : {A : Type 0} → (A → Bool) → List A → Bool
-allPass test [] = true
-allPass test (c ∷ cs) = test c & allPass test cs
-
 -- the tests with all that it takes to compute them: whoever opens this opens these
 unfoldable pub passing : {A : Type 0} → (A → Bool) → List A → Bool
-unfolding passed allPass refusedBy isText isNone ofWritten refusalTest loadTest textTest writeTest unwrittenTest saveTest
+unfolding passed refusedBy isText isNone ofWritten refusalTest loadTest textTest writeTest unwrittenTest saveTest
     entries.firstOf entries.held
     table.padded table.flat table.nodeCells table.branchCells table.defCells table.headerCells table.sectionCells table.tableOf
     loading.refusedAt loading.alone loading.loading loading.replyTo loading.cellsOf
     text.say text._then_ text.repeat text.nodeDone text.branchDone text.defDone text.listedDone text.cellDone text.conditionWord text.expressionWord text.leafText text.numberText text.operandsText text.expressionText text.clausesText text.conditionText text.listedText text.partText text.splitText text.revealText text.actionText text.branchText text.contractText text.defText text.sheetText
     writing.sameAll writing.sameNode writing.sameBranch writing.sameDef writing.sameEntries writing.readAs writing.writable writing.written
     saving.fitted saving.saving saving.replyOf saving.bytesOf
-    cases.node cases.branch cases.def cases.sheet cases.opening cases.pays cases.reveals cases.asks cases.splits cases.renews cases.ending cases.A cases.nodesA cases.branchesA cases.defsA cases.listedA cases.cellsA cases.entriesA cases.oneOf cases.entriesW cases.laid cases.tableA cases.B cases.tableB cases.tableW cases.numbers cases.fromReading cases.rewritten cases.nodeIs cases.branchIs cases.defIs cases.listedIs cases.cellIs cases.fromWriting cases.marks
+    cases.node cases.branch cases.def cases.sheet cases.opening cases.pays cases.reveals cases.asks cases.splits cases.renews cases.ending cases.A cases.nodesA cases.branchesA cases.defsA cases.listedA cases.cellsA cases.entriesA cases.oneOf cases.entriesW cases.laid cases.B cases.tableB cases.tableW cases.numbers cases.fromReading cases.rewritten cases.nodeIs cases.branchIs cases.defIs cases.listedIs cases.cellIs cases.fromWriting cases.marks
 passing test cs = allPass test cs
 
 -- ---- what they show
-
-pub by-pass : {A : Type 0} (test : A → Bool) (Q : A → Type 0) → ((c : A) → test c ≡ true → Q c) → (cs : List A) → allPass test cs ≡ true → All Q cs
-unfolding allPass
-by-pass test Q shows [] h = nil
-by-pass test Q shows (c ∷ cs) h = cons (shows c (and-l _ _ h)) (by-pass test Q shows cs (and-r _ _ h))
 
 pub refused-by : (n l f : ℕ) (a : loading.Loaded) → refusedBy n l f a ≡ true → a ≡ loading.refused n l f
 unfolding refusedBy

@@ -92,30 +92,21 @@ unfoldable pub laid : ℕ → ℕ → List (ℕ × List ℕ) → List ℕ
 laid i n [] = replicate (n - i) 0
 laid i n (r ∷ rs) = replicate (r .0 - i) 0 ++ r .1 ++ laid (r .0 + length (r .1)) n rs
 
--- that of A: header, nodes, branches, definitions, listed numbers, cells of conditions
-unfoldable pub tableA : ℕ → List ℕ
-tableA n =
-    laid 0 n
-    ((0, 2 ∷ 2 ∷ 6 ∷ 5 ∷ 10 ∷ 19 ∷ [])
-    ∷ (8, 0 ∷ 1024 ∷ 0 ∷ 3 ∷ 0 ∷ 1 ∷ 0 ∷ 1 ∷ 0 ∷ 2 ∷ 3 ∷ 0 ∷ 0 ∷ 2 ∷ 4 ∷ 0 ∷ 1 ∷ 1024 ∷ 0 ∷ 1 ∷ 1 ∷ 4 ∷ 0 ∷ 0 ∷ [])
-    ∷ (2056, 0 ∷ 1 ∷ 5 ∷ 0 ∷ 1 ∷ 0 ∷ 0 ∷ 0 ∷ 0 ∷ 3 ∷ 7 ∷ 2 ∷ 1 ∷ 4 ∷ 2 ∷ 0 ∷ [])
-    ∷ (2072, 1 ∷ 0 ∷ 0 ∷ 1 ∷ 2 ∷ 0 ∷ 0 ∷ 0 ∷ 0 ∷ 2 ∷ 0 ∷ 3 ∷ 1 ∷ 0 ∷ 0 ∷ 0 ∷ [])
-    ∷ (2088, 4 ∷ 0 ∷ 0 ∷ 2 ∷ 5 ∷ 9 ∷ 1 ∷ 18 ∷ [])
-    ∷ (10248, 0 ∷ 0 ∷ 2 ∷ 4 ∷ 6 ∷ 1 ∷ [])
-    ∷ (10344, 10 ∷ 20 ∷ 0 ∷ 1 ∷ 1 ∷ 0 ∷ 30 ∷ 0 ∷ 1 ∷ 0 ∷ [])
-    ∷ (19304, 1 ∷ 2 ∷ 3 ∷ 0 ∷ 9 ∷ 1 ∷ 0 ∷ 4 ∷ 2 ∷ 1 ∷ 1 ∷ 0 ∷ 2 ∷ 3 ∷ 1 ∷ 0 ∷ 1 ∷ 1 ∷ 0 ∷ [])
-    ∷ [])
-
--- B is shorter and has two entries in every section: 69 bytes
+-- B has two entries or more in every section
 unfoldable pub B : List ℕ
-B = letters "bitml,1,2\ndef,7,1,0,c,2,0,0,r,1,0,lt,k,3,v,0,c,0,1,9,w,0\ndef,8,0,c,0\n"
+B = letters "bitml,1,2\ndef,7,2,0,0,c,2,1,9,s,2,5,c,1,0,8,r,2,1,0,not,not,eq,k,3,v,0,c,0,6,c,0,1,0,w,0\ndef,8,0,c,0\n"
 
+-- its table: header, nodes, branches, definitions, listed numbers, cells of conditions
 unfoldable pub tableB : ℕ → List ℕ
 tableB n =
     laid 0 n
-    ((0, 1 ∷ 2 ∷ 3 ∷ 2 ∷ 4 ∷ 5 ∷ []) ∷ (8, 0 ∷ 1024 ∷ 0 ∷ 2 ∷ 0 ∷ 0 ∷ 0 ∷ 0 ∷ 1 ∷ 1024 ∷ 0 ∷ 0 ∷ [])
-    ∷ (2056, 0 ∷ 0 ∷ 0 ∷ 2 ∷ 1 ∷ 2 ∷ 1 ∷ 0 ∷ 0 ∷ 1 ∷ 9 ∷ 0 ∷ 0 ∷ 0 ∷ 0 ∷ 0 ∷ []) ∷ (10248, 0 ∷ 0 ∷ 1 ∷ 2 ∷ 3 ∷ 0 ∷ [])
-    ∷ (10344, 7 ∷ 0 ∷ 0 ∷ 8 ∷ []) ∷ (19304, 4 ∷ 0 ∷ 3 ∷ 1 ∷ 0 ∷ []) ∷ [])
+    ((0, 1 ∷ 2 ∷ 5 ∷ 3 ∷ 6 ∷ 7 ∷ [])
+    ∷ (8, 0 ∷ 1024 ∷ 0 ∷ 2 ∷ 0 ∷ 0 ∷ 5 ∷ 1 ∷ 0 ∷ 1 ∷ 0 ∷ 0 ∷ 0 ∷ 0 ∷ 6 ∷ 0 ∷ 1 ∷ 1024 ∷ 0 ∷ 0 ∷ [])
+    ∷ (2056, 0 ∷ 1 ∷ 9 ∷ 1 ∷ 2 ∷ 0 ∷ 0 ∷ 0 ∷ 1 ∷ 0 ∷ 8 ∷ 2 ∷ 2 ∷ 3 ∷ 2 ∷ 0 ∷ 0 ∷ 1 ∷ 0 ∷ 0 ∷ 0 ∷ 0 ∷ 0 ∷ 0 ∷ [])
+    ∷ (10248, 0 ∷ 0 ∷ 2 ∷ 4 ∷ 5 ∷ 0 ∷ [])
+    ∷ (10344, 7 ∷ 0 ∷ 0 ∷ 1 ∷ 0 ∷ 8 ∷ [])
+    ∷ (19304, 2 ∷ 2 ∷ 3 ∷ 0 ∷ 3 ∷ 1 ∷ 0 ∷ [])
+    ∷ [])
 
 -- that of W: the header, the root's 1,024 and count, and a deposit
 unfoldable pub tableW : ℕ → List ℕ
@@ -201,7 +192,7 @@ Load = List ℕ × ℕ × List ℕ
 unfoldable pub loads : List Load
 loads =
     -- each number in its cell, "zero past what is held"; the length is that of the text
-    (A, 52072, 0 ∷ 0 ∷ 0 ∷ 161 ∷ tableA 52072)
+    (B, 52072, 0 ∷ 0 ∷ 0 ∷ 101 ∷ tableB 52072)
     ∷ (W, 52074, 0 ∷ 0 ∷ 0 ∷ 30 ∷ tableW 52074)
     -- "wholly zero after a refusal"
     ∷ (W ++ letters "x", 52073, 9 ∷ 3 ∷ 1 ∷ 0 ∷ laid 0 52073 [])
@@ -432,7 +423,7 @@ Save = List ℕ × List ℕ × List ℕ
 unfoldable pub saves : List Save
 saves =
     -- "the count of bytes written is returned": a buffer that is exactly long enough
-    (tableB 52072, marks 69, 0 ∷ 0 ∷ 0 ∷ 69 ∷ B)
+    (tableB 52072, marks 101, 0 ∷ 0 ∷ 0 ∷ 101 ∷ B)
     -- "20 .. when the buffer is too short", by one byte; "every byte of the buffer then keeps what it held"
     ∷ (tableW 52072, marks 29, 20 ∷ 0 ∷ 0 ∷ 0 ∷ marks 29)
     -- "Bytes after the written ones keep what they held". Numbers past what is held are not looked at: two of the header, one of each

@@ -1,1 +1,1 @@
-// The cases that pin the rules of document 01: requests, and what is answered to them. Nothing here runs.
+// The cases that pin the rules: requests and what is answered to them, sheets as texts and as tables. Nothing here runs.

@@ -78,10 +78,11 @@ cellsA = 1 ∷ 2 ∷ 3 ∷ 0 ∷ 9 ∷ 1 ∷ 0 ∷ 4 ∷ 2 ∷ 1 ∷ 1 ∷ 0 ∷
 unfoldable pub entriesA : Entries
 entriesA = sheet nodesA branchesA defsA listedA cellsA
 
--- W with its entries as they are given: one node, one branch, one definition, one deposit; its own are those of `entriesW`
+-- one node, one branch, one definition, one deposit
 unfoldable pub oneOf : NodeEntry → BranchEntry → DefEntry → ℕ → Entries
 oneOf n b d v = sheet (n ∷ []) (b ∷ []) (d ∷ []) (v ∷ []) []
 
+-- so W
 unfoldable pub entriesW : Entries
 entriesW = oneOf (node 0 1024 0 1) (branch 0 0 0 0 0 0 0 0) (def 0 0 0) 1
 

@@ -226,7 +226,7 @@ texts =
     ∷ letters "bitml,1,1\ndef,1,1,0,c,1,0,0,r,1,0,lt,sub,k,1000000000,k,0,sub,add,v,0,k,10,k,305,c,0\n"
     ∷ []
 
--- ---- A with a number changed, with an entry more or less
+-- ---- A and W with a number changed, with an entry more or less
 
 unfoldable pub nodeIs : ℕ → NodeEntry → Entries
 nodeIs i e = sheet (set nodesA i e) branchesA defsA listedA cellsA
@@ -284,7 +284,7 @@ writes =
     ∷ (2, cellIs 13 2, opening ++ pays ++ reveals ++ letters "and,not,eq,k,9,v,0,lt,add,v,1,k,2,add,v,0,v,1," ++ splits ++ renews ++ ending)
     ∷ []
 
--- "A sheet that reading no text gives"
+-- "A sheet that reading no text gives". Counts past their sections and texts past 32,768 bytes are left to the tests
 abbrev pub Unwritten : Type 0
 Unwritten = ℕ × Entries
 

@@ -11,11 +11,13 @@ use borrow.Author.Tests.{leb-true, leb-false, le-leb, eqb-true, eq-eqb}
 use Rattle.fields.proofs.Ranges.{cond-cases}
 use Rattle.tables.specs.Entries.{Entries, held, people, tableLong}
 use Rattle.lines.specs.Sheet.{SheetRead, accepted, readSheet}
+use Rattle.lines.specs.Sheet.{refused as unread}
 use Rattle.ranges.proofs.Reading.{sheet-inside}
 use Rattle.promises.specs.Texts.{Promised}
 use Rattle.promises.proofs.Promised.{promised}
 use Rattle.loading.specs.Table.{tableOf}
 use Rattle.loading.specs.Loading.{Loaded, loaded, refusedAt, alone, loading}
+use Rattle.loading.specs.Loading.{refused as declined}
 use Rattle.loading.proofs.Table.{table-long, people-back, held-back}
 use Rattle.writing.specs.Writable.{writable, written}
 use Rattle.writing.specs.Written.{sheetText}

@@ -6,6 +6,7 @@ use replies::answered;
 use replies::declined;
 use tables::Sheet;
 use texts::put_word;
+use writing::Pen;
 use writing::put_sheet;
 ghost use mathlib.Core.Path.{_≡_};
 ghost use mathlib.Core.Bool.{true, false};
@@ -16,9 +17,6 @@ ghost use Rattle.lines.specs.Sheet.{readSheet};
 ghost use Rattle.writing.specs.Writable.{readAs};
 ghost use Rattle.saving.specs.Comparing.{sameCells, sameSheet};
 ghost use Rattle.saving.specs.Saving.{saving, replyOf, bytesOf};
-
-// A sheet's text has 32,768 bytes at the most; the writer asks for room for a field that passes them.
-const ROOM: usize = 32800;
 
 // How many cells the header has: participants, and a count for each section.
 const HEADER: usize = 6;
@@ -120,7 +118,7 @@ pub fn write_sheet(t: &[usize], text: &mut [u8]) -> Reply
     if !counts_fit(t) {
         return declined(UNWRITABLE, 0, 0);
     }
-    let mut s = [0u8; ROOM];
+    let mut s = [0u8; Pen::BUFFER];
     let n = put_sheet(t, &mut s);
     if n == 0 {
         return declined(UNWRITABLE, 0, 0);

@@ -14,9 +14,6 @@ ghost use Rattle.texts.specs.Text.{field};
 ghost use Rattle.writing.specs.Written.{say, _then_, repeat, conditionWord, expressionWord, numberText, listedText, expressionText, conditionText, leafText, splitText, revealText, branchText, contractText, defText, sheetText};
 ghost use Rattle.writing.specs.Putting.{Whole, due, nodeOn, branchOn, defOn, listedOn, cellOn, Room, Puts, stood, short};
 
-// How long a buffer must be: one field more than a sheet has bytes.
-pub const BUFFER: usize = Sheet::BYTES + 32;
-
 // Where writing stands: the position in the text, and the entries that are due next.
 pub struct Pen {
     pub at: usize,
@@ -25,6 +22,11 @@ pub struct Pen {
     pub def: usize,
     pub listed: usize,
     pub cell: usize,
+}
+
+impl Pen {
+    // How long a buffer must be: one field more than a sheet has bytes.
+    pub const BUFFER: usize = Sheet::BYTES + 32;
 }
 
 // Where writing stands after a piece of text; or the text has become too long for a sheet.

@@ -1,4 +1,4 @@
-// The checker's entry: any request and any lent buffers get one reply.
+// The checker's entry: any request and any lent buffers get one reply, and so do any text and any table.
 use lent::Row;
 use lent::emit_rows;
 use loading::read_sheet;

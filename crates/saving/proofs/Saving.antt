@@ -20,8 +20,8 @@ use Rattle.texts.specs.Wrote.{Wrote}
 use Rattle.replies.specs.declared.Reply.{Reply}
 use Rattle.writing.specs.Written.{sheetText}
 use Rattle.writing.specs.Writable.{sameEntries, readAs, writable, written}
-use Rattle.writing.specs.Putting.{short}
-use Rattle.writing.proofs.Whole.{short-same, short-none}
+use Rattle.writer.specs.Putting.{short}
+use Rattle.writer.proofs.Whole.{short-same, short-none}
 use Rattle.writing.proofs.Claims.{written-yes, written-no, not-writable, not-sized}
 use Rattle.saving.specs.Comparing.{sameSheet}
 use Rattle.saving.specs.Saving.{Saved, saved, refused, fitted, saving, replyOf, bytesOf}

@@ -1,4 +1,4 @@
-// What `judge` prints: each line written into a buffer of bytes, from a position on; the position behind it comes back.
+// What is printed: each line, and each part of one, written into a buffer of bytes from a position on; the position behind it comes back.
 ghost use mathlib.Core.Path.{_≡_};
 ghost use mathlib.Core.List.{[], _∷_, map};
 ghost use Prim.Native.Nat.{_+_, _*_, _≤_, _<_};

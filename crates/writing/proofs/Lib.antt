@@ -7,11 +7,6 @@ pub mod Local
 pub mod Reread
 pub mod Back
 pub mod Alone
-pub mod Putting
-pub mod Numbers
-pub mod Rules
-pub mod Keeping
-pub mod Whole
 pub mod Same
 pub mod Printed
 pub mod Claims

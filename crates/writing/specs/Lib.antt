@@ -1,4 +1,3 @@
 pub mod Written
 pub mod Writable
 pub mod Back
-pub mod Putting

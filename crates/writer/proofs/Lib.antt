@@ -1,0 +1,5 @@
+pub mod Putting
+pub mod Numbers
+pub mod Rules
+pub mod Keeping
+pub mod Whole

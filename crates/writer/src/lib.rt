@@ -6,9 +6,9 @@ use texts::put_line;
 use texts::put_number;
 use texts::put_word;
 ghost use mathlib.Core.Path.{_≡_};
-ghost use Prim.Native.Nat.{_≤_, _<_};
+ghost use Prim.Native.Nat.{_≤_};
 ghost use lib.ListN.{length, take};
-ghost use Rattle.tables.specs.Entries.{held, people, tableLong, Within};
+ghost use Rattle.tables.specs.Entries.{held, people};
 ghost use Rattle.tables.specs.SheetOf.{nodeEntryAt, branchEntryAt, defEntryAt, listedAt, cellAt};
 ghost use Rattle.texts.specs.Text.{field};
 ghost use Rattle.writing.specs.Written.{say, _then_, repeat, conditionWord, expressionWord, numberText, listedText, expressionText, conditionText, leafText, splitText, revealText, branchText, contractText, defText, sheetText};
@@ -544,7 +544,7 @@ fn put_defs(t: &[usize], p: Pen, n: usize, people: usize, out: &mut [u8]) -> Put
 // The text of the sheet that the table holds, at the start of the buffer; nothing where it has over 32,768 bytes. How many bytes
 // it has comes back.
 pub fn put_sheet(t: &[usize], out: &mut [u8]) -> usize
-    requires { ⌜ (tableLong ≤ length (now t)) × Within (now t) ⌝ }
+    requires { ⌜ Whole (now t) ⌝ }
     requires { ⌜ 32800 ≤ length (now out) ⌝ }
     ensures { λ r. ⌜ r ≡ length (short (sheetText (people (now (t .entry))) (held (now (t .entry))))) ⌝ }
     ensures { λ r. ⌜ take r (now (out .exit)) ≡ short (sheetText (people (now (t .entry))) (held (now (t .entry)))) ⌝ }

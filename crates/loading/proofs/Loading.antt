@@ -30,12 +30,15 @@ module _ (s : List ℕ) (n : ℕ) where
   unfolding loading
   too-short h k = rw (le-leb (length s) 65536 h, lt-leb tableLong n k)
 
+  pub is-alone : length s ≤ 65536 → tableLong ≤ n → loading s n ≡ alone s (readSheet s)
+  unfolding loading
+  is-alone h k = rw (le-leb (length s) 65536 h, le-leb tableLong n k)
+
 -- ---- once it is read: g was answered, and u is the table then
 
 module _ (s : List ℕ) (n : ℕ) (h : length s ≤ 65536) (k : tableLong ≤ n) (g : Got) (u : List ℕ) (e : answered g u ≡ readSheet s) where
   reads : loading s n ≡ alone s (answered g u)
-  unfolding loading
-  reads = rw (le-leb (length s) 65536 h, le-leb tableLong n k, sym e)
+  reads = is-alone s n h k ∙ ap (alone s) (sym e)
 
   pub unread : (m p : ℕ) → g ≡ got.Bad m p → loading s n ≡ refusedAt s m p
   unfolding answered alone

@@ -1,13 +1,14 @@
 -- What is claimed of tables holds. Assumes nothing.
 use Prim.Native.Nat.{ℕ, _≤_, _<_}
 use mathlib.Core.Path.{_≡_, refl, sym, ap, _∙_, subst}
+use mathlib.Core.Bool.{cond}
 use mathlib.Core.Option.{Option, some, none}
 use mathlib.Core.List.{List}
 use native.Mathlib.Omega.{arith}
 use lib.ListN.{length}
 use lib.Seq.{take-length}
 use lib.Dec.{leb, eqb}
-use borrow.Author.Tests.{leb-true, leb-false, le-leb, eqb-true, eq-eqb}
+use borrow.Author.Tests.{leb-true, leb-false, eqb-true, eq-eqb}
 use Rattle.fields.proofs.Ranges.{cond-cases}
 use Rattle.tables.specs.Entries.{Entries, held, people, tableLong}
 use Rattle.lines.specs.Sheet.{SheetRead, accepted, readSheet}
@@ -19,6 +20,7 @@ use Rattle.loading.specs.Table.{tableOf}
 use Rattle.loading.specs.Loading.{Loaded, loaded, refusedAt, alone, loading}
 use Rattle.loading.specs.Loading.{refused as declined}
 use Rattle.loading.proofs.Table.{table-long, people-back, held-back}
+use Rattle.loading.proofs.Loading.{is-alone}
 use Rattle.writing.specs.Writable.{writable, written}
 use Rattle.writing.specs.Written.{sheetText}
 use Rattle.writing.specs.Back.{Text}
@@ -52,8 +54,8 @@ loaded-is s n K E =
     never e = absurd (let z : _≡_ {A = ℕ} 0 1 = cc in omega arith)
 
 loads : (s : List ℕ) (n K : ℕ) (E : Entries) → length s ≤ 65536 → tableLong ≤ n → readSheet s ≡ accepted K (length s) E → loading s n ≡ loaded K E
-unfolding loading alone
-loads s n K E l h e = rw (le-leb (length s) 65536 l, le-leb tableLong n h, e, eq-eqb (length s) (length s) refl)
+unfolding alone
+loads s n K E l h e = is-alone s n l h ∙ ap (alone s) e ∙ ap (λ b. cond b (loaded K E) (refusedAt s 9 (length s))) (eq-eqb (length s) (length s) refl)
 
 -- ---- what was written from one
 

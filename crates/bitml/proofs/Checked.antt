@@ -13,7 +13,7 @@ use Rattle.bitml.specs.Lists.{_&_, _or_, ask, every, All, nil, cons}
 use Rattle.bitml.specs.Sheet.{Sheet, branchesAt, branchAt, noBranch, hasBranch, defAt}
 use Rattle.bitml.specs.Runs.{next, own}
 use Rattle.bitml.specs.Rows.{Row, has, leastRank, Distinct, empty, apart, Closed, Mine, Holds, Accepted, Wrong, missing, foreign, low, FaultAt, twice, rootless, row, Fault, orElse, repeated, rowFault, faulty, check}
-use Rattle.bitml.proofs.Lists.{and-l, and-r, and-i, or-no-l, or-no-r, or-no, or-l, or-r, or-cases, all-head, all-tail, all-imp, all-both, every-at, every-mem, every-by-at, every-by-mem, every-not-at, every-not-mem}
+use Rattle.bitml.proofs.Lists.{is-false, and-l, and-r, and-i, or-no-l, or-no-r, or-no, or-l, or-r, or-cases, all-head, all-tail, all-imp, all-both, every-at, every-mem, every-by-at, every-by-mem, every-not-at, every-not-mem}
 
 abbrev at : ℕ → ℕ → Fault
 at n i = record { number = n; place = i }
@@ -21,10 +21,6 @@ at n i = record { number = n; place = i }
 all-fresh : (R : List Row) → All (λ q. has [] (q .node) ≡ false) R
 all-fresh [] = nil
 all-fresh (r ∷ R) = cons refl (all-fresh R)
-
-not-true : (b : Bool) → (b ≡ true → ⊥) → b ≡ false
-not-true true f = absurd (f refl)
-not-true false f = refl
 
 else-first : (f g : Fault) → (f .number ≡ 0 → ⊥) → orElse f g ≡ f
 else-first f g h = rw (ne-eqb (f .number) 0 h)
@@ -126,8 +122,8 @@ module _ (s : Sheet) (p : ℕ) (R : List Row) where
 
   wrong-number : (r : Row) {n : ℕ} → Wrong s p R r n → rowFault s p R r ≡ n
   unfolding rowFault ask
-  wrong-number r (missing b m hb hm e) = rw (not-true (needed r) λ k. false≢true (sym e ∙ needed-closed r k b m hb hm))
-  wrong-number r (foreign f h) = rw (closed-needed r f, not-true (mine r) λ k. h (own-mine r k))
+  wrong-number r (missing b m hb hm e) = rw (is-false (needed r) λ k. false≢true (sym e ∙ needed-closed r k b m hb hm))
+  wrong-number r (foreign f h) = rw (closed-needed r f, is-false (mine r) λ k. h (own-mine r k))
   wrong-number r (low f o k) = rw (closed-needed r f, mine-own r o, lt-leb (least r) (r .rank) k)
 
   wrong-some : (r : Row) {n : ℕ} → Wrong s p R r n → 0 < n

@@ -10,6 +10,11 @@ use mathlib.Core.List.{List, [], _∷_, _++_, map, List·Memᴰ, List·Memᴰ·h
 use lib.ListN.{length, getD, set}
 use Rattle.bitml.specs.Lists.{_&_, _or_, _⇒_, ask, sum, every, any, keep, All, nil, cons, upFrom}
 
+-- a test that can't pass
+pub is-false : (b : Bool) → (b ≡ true → ⊥) → b ≡ false
+is-false true f = absurd (f refl)
+is-false false f = refl
+
 pub and-l : (a b : Bool) → (a & b) ≡ true → a ≡ true
 unfolding _&_
 and-l true b e = refl

@@ -8,7 +8,7 @@ use lib.ListN.{length, getD}
 use lib.Dec.{eqb}
 use borrow.Author.Tests.{eqb-true, eq-eqb, ne-eqb}
 use Rattle.bitml.specs.Lists.{_&_}
-use Rattle.bitml.proofs.Lists.{and-l, and-r, and-i, and-false, and-true}
+use Rattle.bitml.proofs.Lists.{is-false, and-l, and-r, and-i, and-false, and-true}
 use Rattle.tables.specs.Entries.{Entries, firstOf, nodeIn, branchIn, defIn, listedIn, cellIn, held, people}
 use Rattle.tables.proofs.Laws.{firstOf-length}
 use Rattle.writing.specs.Writable.{sameAll, sameNode, sameBranch, sameDef, sameEntries}
@@ -166,11 +166,7 @@ module _ (u t : List ℕ) where
   -- ---- the sheets
 
   pub header-no : sameCells 0 6 u t ≡ false → sameSheet u t ≡ false
-  header-no h = go (sameSheet u t) refl
-    where
-      go : (b : Bool) → sameSheet u t ≡ b → b ≡ false
-      go true e = absurd (false≢true (sym h ∙ counts-header (same-counts e)))
-      go false e = refl
+  header-no h = is-false (sameSheet u t) λ e. false≢true (sym h ∙ counts-header (same-counts e))
 
   pub sections-same : sameCells 0 6 u t ≡ true
       → sameSheet u t ≡ (sameCells 8 (4 * getD t 2 0) u t & sameCells 2056 (8 * getD t 3 0) u t & sameCells 10248 (3 * getD t 1 0) u t

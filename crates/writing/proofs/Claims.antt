@@ -7,6 +7,7 @@ use mathlib.Core.List.{List}
 use native.Mathlib.Omega.{arith}
 use lib.ListN.{length, take}
 use lib.Seq.{length-take-le}
+use Rattle.bitml.proofs.Lists.{is-false}
 use Rattle.tables.specs.Entries.{Entries}
 use Rattle.lines.specs.Sheet.{accepted, readSheet}
 use Rattle.reader.specs.Promises.{Sizes}
@@ -43,20 +44,12 @@ module _ (K : ℕ) (E : Entries) where
   -- ---- what is not
 
   pub not-writable : 32768 < length (sheetText K E) → writable K E ≡ false
-  not-writable h = go (writable K E) refl
-    where
-      go : (b : Bool) → writable K E ≡ b → b ≡ false
-      go true e = absurd (let i = sheet-inside (sheetText K E) K (length (sheetText K E)) E (writable-reads e) .1 in omega arith)
-      go false e = refl
+  not-writable h = is-false (writable K E) λ e. omega (arith, h, sheet-inside (sheetText K E) K (length (sheetText K E)) E (writable-reads e) .1)
 
   -- a count that no sheet has
   pub not-sized : (Sizes K E → ⊥) → writable K E ≡ false
   unfolding Promised
-  not-sized h = go (writable K E) refl
-    where
-      go : (b : Bool) → writable K E ≡ b → b ≡ false
-      go true e = absurd (h (promised (sheetText K E) K (length (sheetText K E)) E (writable-reads e) .limits))
-      go false e = refl
+  not-sized h = is-false (writable K E) λ e. h (promised (sheetText K E) K (length (sheetText K E)) E (writable-reads e) .limits)
 
 -- ---- the claims
 

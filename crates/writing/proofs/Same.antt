@@ -123,10 +123,3 @@ read-as-yes n K E (refused m p) e = absurd (false≢true e)
 pub yes-read-as : (n K : ℕ) (E : Entries) (r : SheetRead) → r ≡ accepted K n E → readAs n K E r ≡ true
 unfolding readAs
 yes-read-as n K E r e = subst (λ x. readAs n K E x ≡ true) (sym e) (and-i _ _ (self K) (and-i _ _ (self n) (is-same E E refl)))
-
-pub read-as-no : (n K : ℕ) (E : Entries) (r : SheetRead) → (r ≡ accepted K n E → ⊥) → readAs n K E r ≡ false
-read-as-no n K E r h = go (readAs n K E r) refl
-  where
-    go : (b : Bool) → readAs n K E r ≡ b → b ≡ false
-    go true e = absurd (h (read-as-yes n K E r e))
-    go false e = refl

@@ -32,13 +32,15 @@ const TIME: Duration = Duration::from_millis(1_500);
 const RUNS: usize = 31;
 /// Writing a large sheet may take so many times as long as reading it.
 const WRITING: f64 = 3.0;
+/// `makeall` for 16 participants takes less than this part of 16 calls of `make`.
+const PARTIES: f64 = 0.5;
 
 // ---------------------------------------------------------------------------------------------
 // Requests
 // ---------------------------------------------------------------------------------------------
 
-/// Grows the largest sheet: 512 nodes of two branches each, all reached, an exit from each for
-/// participant 0.
+/// Grows the largest sheet: 512 nodes of two branches each, all reached, an exit from each for all of
+/// 16 participants.
 struct Largest {
     text: String,
     /// How many reveals with a condition of 64 fields are left to place.
@@ -174,26 +176,42 @@ fn twice(rows: &str) -> String {
     format!("{second}\n{rest}")
 }
 
-fn requests() -> Vec<(&'static str, String)> {
+/// Requests, and the places for rows that are lent for them.
+fn requests() -> Vec<(&'static str, usize, String)> {
     let sheet = largest_sheet();
     let make = format!("{sheet}make,0\n");
     let (reply, _) = model::judge(make.as_bytes());
     let printed = reply.printed();
     let rows = printed.rsplit_once("liquid").map_or("", |(rows, _)| rows);
     assert_eq!(rows.lines().count(), model::ROWS);
+    let makeall = format!("{sheet}makeall\n");
+    assert_eq!(lines(makeall.as_bytes()).0, 16 * (model::ROWS + 1));
+    let smallest = format!("{}make,0\n", cases::T);
+    let (few, all) = (library::ROWS, library::ALL_ROWS);
     vec![
-        ("smallest", format!("{}make,0\n", cases::T)),
-        ("largest sheet, make", make),
-        ("largest sheet, check", format!("{sheet}check,0\n{rows}")),
-        // Refused as soon as they are judged, by 11 and by 10: what the two above take before they judge.
-        ("no rows", format!("{sheet}check,0\n")),
-        ("a row twice", format!("{sheet}check,0\n{}", twice(rows))),
-        ("mixed events", mixed_events()),
+        ("smallest", few, smallest.clone()),
+        ("smallest, 8,192 places", all, smallest),
+        ("largest sheet, make", few, make),
+        ("largest sheet, makeall", all, makeall),
+        (
+            "largest sheet, check",
+            few,
+            format!("{sheet}check,0\n{rows}"),
+        ),
+        // Refused as soon as they are judged, by 11 and by 10: what those above take before they judge.
+        ("no rows", few, format!("{sheet}check,0\n")),
+        (
+            "a row twice",
+            few,
+            format!("{sheet}check,0\n{}", twice(rows)),
+        ),
+        ("mixed events", few, mixed_events()),
         (
             "9,350 waits",
+            few,
             format!("{}play\n{}", cases::N, "wait,1\n".repeat(9_350)),
         ),
-        ("conditions of 64 fields", long_conditions()),
+        ("conditions of 64 fields", few, long_conditions()),
     ]
 }
 
@@ -248,9 +266,10 @@ struct Buffers {
 }
 
 impl Buffers {
-    fn new() -> Buffers {
+    /// With so many places for rows.
+    fn new(places: usize) -> Buffers {
         Buffers {
-            rows: vec![Row::default(); library::ROWS],
+            rows: vec![Row::default(); places],
             text: vec![b'?'; library::TEXT],
         }
     }
@@ -261,7 +280,7 @@ impl Buffers {
 
     /// The model with the library's duty: the answer stands in the buffers, zeros past it.
     fn by_model(&mut self, request: &[u8]) -> Reply {
-        let (reply, rows) = model::judge(request);
+        let (reply, rows) = model::judge_lent(request, self.rows.len(), self.text.len());
         for (place, (node, branch, rank)) in self.rows.iter_mut().zip(&rows) {
             *place = Row {
                 node: *node as usize,
@@ -372,10 +391,10 @@ fn bench() -> Result<(), String> {
         "request", "bytes", "lines", "taken", "library", "model", "ratio", "runs"
     );
     let mut found = BTreeMap::new();
-    for (name, request) in requests() {
+    for (name, places, request) in requests() {
         let request = request.as_bytes();
         let raced = race(
-            Buffers::new,
+            || Buffers::new(places),
             |buffers| buffers.by_library(black_box(request)),
             |buffers| buffers.by_model(black_box(request)),
         );
@@ -389,6 +408,7 @@ fn bench() -> Result<(), String> {
     }
     for (whole, read) in [
         ("largest sheet, make", "no rows"),
+        ("largest sheet, makeall", "no rows"),
         ("largest sheet, check", "a row twice"),
     ] {
         let (library, model) = (
@@ -400,16 +420,19 @@ fn bench() -> Result<(), String> {
             library / model
         );
     }
-    let mut buffers = Buffers::new();
-    let mut times = Vec::new();
-    for _ in 0..1_000 {
-        timed(&mut times, || buffers.cleared());
+    for places in [library::ROWS, library::ALL_ROWS] {
+        let mut buffers = Buffers::new(places);
+        let mut times = Vec::new();
+        for _ in 0..1_000 {
+            timed(&mut times, || buffers.cleared());
+        }
+        println!(
+            "clearing the text and {places} places, which every answer does: {:.1}",
+            median(times)
+        );
     }
-    println!(
-        "clearing both buffers, which every answer does: {:.1}",
-        median(times)
-    );
-    bench_tables()?;
+    let parties = bench_parties();
+    let tables = bench_tables();
     // What the ratios mean, so that nobody reads too much into them.
     println!(
         "The model looks at each field once, and its time grows with the length of the request;"
@@ -418,7 +441,41 @@ fn bench() -> Result<(), String> {
         "but it is written for plainness, with trees and lists on the heap.  A program written"
     );
     println!("for speed would be quicker than the model, so a ratio near 1 is no praise.");
-    Ok(())
+    parties.and(tables)
+}
+
+/// `makeall` on the largest sheet, and `make` for one participant after the other, both by the library.
+fn bench_parties() -> Result<(), String> {
+    let sheet = largest_sheet();
+    let all = format!("{sheet}makeall\n");
+    let each = (0..model::PARTICIPANTS).map(|who| format!("{sheet}make,{who}\n"));
+    let each: Vec<String> = each.collect();
+    let mut buffers = Buffers::new(library::ALL_ROWS);
+    let mut ours = Buffers::new(library::ROWS);
+    let (mut at_once, mut one_by_one) = (Vec::new(), Vec::new());
+    let start = Instant::now();
+    while start.elapsed() < TIME || at_once.len() < RUNS {
+        let request = black_box(all.as_bytes());
+        let whole = timed(&mut at_once, || buffers.by_library(request).length);
+        let parts: usize = timed(&mut one_by_one, || {
+            let lengths = each
+                .iter()
+                .map(|make| ours.by_library(black_box(make.as_bytes())).length);
+            lengths.sum()
+        });
+        if whole != parts || whole == 0 {
+            return Err(format!("makeall: {whole} bytes, one by one {parts}"));
+        }
+    }
+    let (at_once, one_by_one) = (median(at_once), median(one_by_one));
+    let ratio = at_once / one_by_one;
+    println!("16 parties at once: {at_once:.1}, one by one {one_by_one:.1}, ratio {ratio:.2}");
+    if ratio < PARTIES {
+        return Ok(());
+    }
+    Err(format!(
+        "16 parties at once take {PARTIES} or more of one by one"
+    ))
 }
 
 /// Sheets as tables; the largest ones are written in at most three times what reading them takes.
@@ -462,14 +519,15 @@ fn on_stack(kib: usize) -> bool {
     // The requests are made on the main thread: the model that helps to make them needs stack too.
     let (requests, sheets) = (requests(), sheets_to_write());
     let run = move || {
-        let mut buffers = Buffers::new();
-        for (_, request) in &requests {
+        for (_, places, request) in &requests {
+            let mut buffers = Buffers::new(*places);
             black_box(buffers.by_library(request.as_bytes()));
         }
         let mut cells = vec![0; SHEET_CELLS];
+        let mut text = vec![0; library::TEXT];
         for (_, sheet) in &sheets {
             black_box(library::read_sheet(sheet.as_bytes(), &mut cells));
-            black_box(library::write_sheet(&cells, &mut buffers.text));
+            black_box(library::write_sheet(&cells, &mut text));
         }
     };
     let thread = std::thread::Builder::new().stack_size(kib << 10).spawn(run);

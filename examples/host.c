@@ -13,7 +13,7 @@
 
 /* One byte more than a request may have, so that one that is too long is seen to be so. */
 static uint8_t request[HURKOXEL_REQUEST_BYTES + 1];
-static hurkoxel_row rows[HURKOXEL_ROWS];
+static hurkoxel_row rows[HURKOXEL_ALL_ROWS];
 static uint8_t text[HURKOXEL_TEXT_BYTES];
 
 /* The count of bytes that the file holds, or that there is room for; -1 if it cannot be read. */
@@ -28,9 +28,25 @@ static long load(const char *name)
     return failed ? -1 : (long)length;
 }
 
+/* The rows of each participant for whom `makeall` found some; those of `make` and `check` stand from 0 on. */
+static void report_rows(void)
+{
+    for (size_t first = 0; first < HURKOXEL_ALL_ROWS; first += HURKOXEL_ROWS) {
+        /* A rank is at least 1, so the first row of zeros ends the rows. */
+        size_t count = 0;
+        while (count < HURKOXEL_ROWS && rows[first + count].rank != 0)
+            count++;
+        if (count > 0) {
+            hurkoxel_row last = rows[first + count - 1];
+            printf("rows from %zu on: %zu, the last is %zu,%zu,%zu\n", first, count,
+                   last.node, last.branch, last.rank);
+        }
+    }
+}
+
 static void answer(const char *name, size_t length)
 {
-    hurkoxel_reply reply = hurkoxel_judge(request, length, rows, HURKOXEL_ROWS, text, sizeof text);
+    hurkoxel_reply reply = hurkoxel_judge(request, length, rows, HURKOXEL_ALL_ROWS, text, sizeof text);
     if (reply.length == 0) {
         /* The lent text is all zero now; the line is written to a small buffer of its own. */
         uint8_t line[HURKOXEL_LINE_BYTES];
@@ -40,13 +56,7 @@ static void answer(const char *name, size_t length)
     }
     printf("%s: %zu bytes\n", name, reply.length);
     fwrite(text, 1, reply.length, stdout);
-    /* A rank is at least 1, so the first row of zeros ends the rows. */
-    size_t count = 0;
-    while (count < HURKOXEL_ROWS && rows[count].rank != 0)
-        count++;
-    if (count > 0)
-        printf("rows: %zu, the last is %zu,%zu,%zu\n", count,
-               rows[count - 1].node, rows[count - 1].branch, rows[count - 1].rank);
+    report_rows();
 }
 
 int main(int argc, char **argv)

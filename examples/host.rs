@@ -40,6 +40,11 @@ extern "C" {
     ) -> Reply;
 }
 
+/// Rows of one participant, rows of all that `makeall` answers for, and bytes of text.
+const ROWS: usize = 512;
+const ALL_ROWS: usize = 8_192;
+const TEXT_BYTES: usize = 180_224;
+
 /// What is lent for every request.
 struct Buffers {
     rows: Vec<Row>,
@@ -47,7 +52,7 @@ struct Buffers {
 }
 
 impl Buffers {
-    /// The text and the rows of an answer, or the refusal.
+    /// The text and the places of the rows of an answer, or the refusal.
     fn judge(&mut self, request: &[u8]) -> Result<(&[u8], &[Row]), Reply> {
         let (rows, text) = (&mut self.rows, &mut self.text);
         // SAFETY: each pointer goes with its length, and the three are different memory.
@@ -64,9 +69,19 @@ impl Buffers {
         if reply.length == 0 {
             return Err(reply);
         }
+        Ok((&text[..reply.length], rows))
+    }
+}
+
+/// The rows of each participant for whom `makeall` found some; those of `make` and `check` stand from 0 on.
+fn report_rows(places: &[Row]) {
+    for (participant, places) in places.chunks(ROWS).enumerate() {
         // A rank is at least 1, so the first row of zeros ends the rows.
-        let count = rows.iter().take_while(|row| row.rank != 0).count();
-        Ok((&text[..reply.length], &rows[..count]))
+        let count = places.iter().take_while(|row| row.rank != 0).count();
+        if let Some(Row { node, branch, rank }) = places[..count].last() {
+            let first = ROWS * participant;
+            println!("rows from {first} on: {count}, the last is {node},{branch},{rank}");
+        }
     }
 }
 
@@ -82,8 +97,8 @@ fn load(name: &str) -> std::io::Result<Vec<u8>> {
 fn main() -> ExitCode {
     let mut status = ExitCode::SUCCESS;
     let mut buffers = Buffers {
-        rows: vec![Row::default(); 512],
-        text: vec![0; 180_224],
+        rows: vec![Row::default(); ALL_ROWS],
+        text: vec![0; TEXT_BYTES],
     };
     for name in std::env::args().skip(1) {
         let request = match load(&name) {
@@ -98,9 +113,7 @@ fn main() -> ExitCode {
             Ok((text, rows)) => {
                 println!("{name}: {} bytes", text.len());
                 print!("{}", String::from_utf8_lossy(text));
-                if let Some(Row { node, branch, rank }) = rows.last() {
-                    println!("rows: {}, the last is {node},{branch},{rank}", rows.len());
-                }
+                report_rows(rows);
             }
             Err(Reply {
                 number,

@@ -19,6 +19,8 @@ extern "C" {
 #define HURKOXEL_REQUEST_BYTES 65536
 #define HURKOXEL_ROWS 512
 #define HURKOXEL_TEXT_BYTES 180224
+/* The shortest row buffer for `makeall`, in which the rows of participant p begin at HURKOXEL_ROWS * p. */
+#define HURKOXEL_ALL_ROWS 8192
 /* Enough for the line of a refused request. */
 #define HURKOXEL_LINE_BYTES 80
 /* The shortest table that is enough for any sheet, and a buffer that is enough for the text of any table. */

@@ -1,7 +1,8 @@
 //! The static library as a Rust program sees it; include/hurkoxel.h has the contract in words.
 
-/// Fewest rows and fewest bytes of text that must be lent.
+/// Fewest rows and fewest bytes of text that must be lent; `makeall` asks for more rows.
 pub const ROWS: usize = 512;
+pub const ALL_ROWS: usize = 8_192;
 pub const TEXT: usize = 180_224;
 
 #[repr(C)]

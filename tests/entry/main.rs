@@ -9,9 +9,12 @@
 //!
 //! The same memory is lent for every request and never cleared; before some calls it is filled with
 //! garbage, and what lies outside the lent parts must stay.  Of each answer the reply, every byte of
-//! text and every row is compared.  Every number from 1 to 19 must occur.  sheets.rs does the same for
+//! text and every row is compared; a `makeall` also with the library's own answers to `make` for one
+//! participant after the other.  Every number from 1 to 19 must occur.  sheets.rs does the same for
 //! sheets as tables, for a tenth of COUNT texts.
 
+#[path = "../model/buffers.rs"]
+mod buffers;
 #[allow(dead_code)]
 #[path = "../model/cases.rs"]
 mod cases;
@@ -33,6 +36,7 @@ use std::process::ExitCode;
 
 use generate::{Generator, Random};
 use library::{Reply, Row};
+use model::sheets::Answer;
 
 /// So many requests of a fixed seed show every number by themselves.
 const GENERATED: usize = 20_000;
@@ -64,15 +68,9 @@ fn refused(number: usize, line: usize, field: usize) -> Due {
     }
 }
 
-/// By the model: 1, then short buffers, then reading, then judging.
+/// By the model.
 fn due(request: &[u8], row_count: usize, text_length: usize) -> Due {
-    if request.len() > model::REQUEST_BYTES {
-        return refused(1, 0, 0);
-    }
-    if row_count < library::ROWS || text_length < library::TEXT {
-        return refused(7, 0, 0);
-    }
-    match model::judge(request) {
+    match model::judge_lent(request, row_count, text_length) {
         (
             model::Reply::Refused {
                 number,
@@ -94,12 +92,18 @@ fn due(request: &[u8], row_count: usize, text_length: usize) -> Due {
     }
 }
 
-fn row(numbers: &(u64, u64, u64)) -> Row {
+fn row((node, branch, rank): &model::Place) -> Row {
     Row {
-        node: numbers.0 as usize,
-        branch: numbers.1 as usize,
-        rank: numbers.2 as usize,
+        node: *node as usize,
+        branch: *branch as usize,
+        rank: *rank as usize,
     }
+}
+
+/// May this be a `makeall`?
+fn asks_all(request: &[u8]) -> bool {
+    let mut lines = request.split(|byte| *byte == b'\n');
+    lines.any(|line| line.starts_with(b"makeall"))
 }
 
 /// The first place at which a buffer is not `due` with zeros past it.
@@ -152,7 +156,9 @@ fn altered(due: &Due, right: &Held) -> Vec<(&'static str, Held)> {
         change(&mut held);
         all.push((name, held));
     };
-    let (rows, bytes) = (due.rows.len(), due.text.len());
+    let (past, bytes) = (due.rows.len(), due.text.len());
+    let mut places = (0..past).filter(|place| due.rows[*place].rank > 0);
+    let (first, last) = (places.next(), places.next_back());
     alter("number", &|held| held.reply.number += 1);
     alter("line", &|held| held.reply.line += 1);
     alter("field", &|held| held.reply.field += 1);
@@ -163,8 +169,8 @@ fn altered(due: &Due, right: &Held) -> Vec<(&'static str, Held)> {
     alter("the last byte of the buffer", &|held| {
         *held.text.last_mut().unwrap() = 1
     });
-    alter("a node past the rows", &|held| held.rows[rows].node = 1);
-    alter("a branch past the rows", &|held| held.rows[rows].branch = 1);
+    alter("a node past the rows", &|held| held.rows[past].node = 1);
+    alter("a branch past the rows", &|held| held.rows[past].branch = 1);
     alter("the last rank of the buffer", &|held| {
         held.rows.last_mut().unwrap().rank = 1
     });
@@ -174,12 +180,18 @@ fn altered(due: &Due, right: &Held) -> Vec<(&'static str, Held)> {
         alter("a byte less", &|held| held.reply.length -= 1);
         alter("no text", &|held| held.text.fill(0));
     }
-    if rows > 0 {
-        alter("a node", &|held| held.rows[rows - 1].node += 1);
-        alter("a branch", &|held| held.rows[0].branch += 1);
-        alter("a rank", &|held| held.rows[0].rank += 1);
+    if let (Some(first), Some(last)) = (first, last) {
+        alter("a node", &|held| held.rows[last].node += 1);
+        alter("a branch", &|held| held.rows[first].branch += 1);
+        alter("a rank", &|held| held.rows[first].rank += 1);
+        alter("the first place behind", &|held| {
+            held.rows[last + 1].rank = 1
+        });
         alter("no rows", &|held| held.rows.fill(Row::default()));
-        alter("rows in another order", &|held| held.rows.swap(0, rows));
+        alter("rows in another order", &|held| held.rows.swap(first, last));
+        alter("the last row a place on", &|held| {
+            held.rows.swap(last, last + 1)
+        });
     }
     all
 }
@@ -193,17 +205,20 @@ fn comparison_can_fail() -> Result<usize, String> {
         format!("{t}check,0\n{row}1\n"),
         format!("{t}play,x\nwait,499\nfire,0,1\nwait,1\nfire,0,1\n"),
         format!("{}make,0\n", cases::D),
+        format!("{t}makeall\n"),
+        format!("{}makeall\n", cases::M),
+        format!("{}makeall\n", cases::D),
         "bitml,2".to_string(),
     ];
     let mut tried = 0;
     for request in requests {
-        let due = due(request.as_bytes(), library::ROWS, library::TEXT);
+        let due = due(request.as_bytes(), library::ALL_ROWS, library::TEXT);
         let mut right = Held {
             reply: due.reply,
             rows: due.rows.clone(),
             text: due.text.clone(),
         };
-        right.rows.resize(library::ROWS + 9, Row::default());
+        right.rows.resize(library::ALL_ROWS + 9, Row::default());
         right.text.resize(library::TEXT + 9, 0);
         if let Some(difference) = difference(&due, &right.reply, &right.rows, &right.text) {
             return Err(format!("a right answer fails: {difference}"));
@@ -244,7 +259,7 @@ fn kept_outside<T: PartialEq>(before: &[T], after: &[T], lent: &Range<usize>) ->
 }
 
 impl Memory {
-    const ROWS: usize = library::ROWS + 200;
+    const ROWS: usize = library::ALL_ROWS + 200;
     const TEXT: usize = library::TEXT + 5_000;
 
     fn new() -> Memory {
@@ -295,12 +310,13 @@ impl Parts {
         }
     }
 
-    /// Long enough: most often just so, else longer than needed.
-    fn enough(random: &mut Random) -> Parts {
-        let (mut row_count, mut text_length) = (library::ROWS, library::TEXT);
-        if random.chance(30) {
-            row_count = random.between(library::ROWS, Memory::ROWS);
-        }
+    /// Long enough: most often just so, else longer than needed.  A `makeall` asks for more rows.
+    fn enough(random: &mut Random, all: bool) -> Parts {
+        let (most, every) = (Memory::ROWS, library::ALL_ROWS);
+        let least = if all { every } else { library::ROWS };
+        let some = random.between(least, most);
+        let row_count = random.pick(&[least, least, least, least, every, some, some]);
+        let mut text_length = library::TEXT;
         if random.chance(30) {
             text_length = random.between(library::TEXT, Memory::TEXT);
         }
@@ -321,6 +337,13 @@ impl Parts {
         }
         Parts::of(random, row_count, text_length)
     }
+
+    /// Enough rows for any word but `makeall`.
+    fn few(random: &mut Random) -> Parts {
+        let some = random.between(library::ROWS, library::ALL_ROWS - 1);
+        let row_count = random.pick(&[512, 513, 1_024, 8_191, some, some]);
+        Parts::of(random, row_count, library::TEXT)
+    }
 }
 
 // ---------------------------------------------------------------------------------------------
@@ -332,12 +355,18 @@ impl Parts {
 struct Counts {
     calls: usize,
     short: usize,
+    /// Too few rows for a `makeall` that was read, and more rows than another word asks for.
+    few: usize,
+    long: usize,
     garbage: usize,
     refused_requests: [usize; 20],
     refused_events: [usize; 20],
     made: usize,
     checked: usize,
     frozen: usize,
+    /// Answers to `makeall`; those that are liquid for some and frozen for others.
+    parties: usize,
+    mixed: usize,
     plays: usize,
     taken: usize,
     most_rows: usize,
@@ -346,13 +375,21 @@ struct Counts {
 
 impl Counts {
     /// Counts an answer by what the library gave back.
-    fn add(&mut self, reply: &Reply, text: &str) {
+    fn add(&mut self, all: bool, parts: &Parts, reply: &Reply, text: &str) {
         self.calls += 1;
         self.longest_text = self.longest_text.max(text.len());
+        let short = parts.rows.len() < library::ROWS || parts.text.len() < library::TEXT;
+        self.short += usize::from(short);
         if reply.number != 0 {
             self.refused_requests[reply.number] += 1;
+            let nowhere = reply.number == 7 && reply.line == 0;
+            self.few += usize::from(nowhere && !short);
             return;
         }
+        let mixed = text.contains("liquid,") && text.contains("frozen,");
+        self.mixed += usize::from(mixed);
+        self.parties += usize::from(all);
+        self.long += usize::from(!all && parts.rows.len() >= library::ALL_ROWS);
         let rows = text.lines().filter(|line| line.starts_with("row,")).count();
         self.most_rows = self.most_rows.max(rows);
         for line in text.lines() {
@@ -383,9 +420,13 @@ impl Counts {
             ("liquid by make", self.made),
             ("liquid by check", self.checked),
             ("frozen", self.frozen),
+            ("all parties", self.parties),
+            ("some parties liquid", self.mixed),
             ("a play", self.plays),
             ("taken", self.taken),
             ("short buffers", self.short),
+            ("too few rows for all parties", self.few),
+            ("more rows than asked for", self.long),
             ("garbage", self.garbage),
         ] {
             if count == 0 {
@@ -398,9 +439,22 @@ impl Counts {
 
 struct Test {
     memory: Memory,
+    /// For calls that are compared with others of the library.
+    rows: Vec<Row>,
+    text: Vec<u8>,
     random: Random,
     counts: Counts,
     failures: usize,
+}
+
+/// The library as a case of buffers calls it.
+fn call(request: &[u8], places: &mut [model::Place], text: &mut [u8]) -> Answer {
+    let mut rows: Vec<Row> = places.iter().map(row).collect();
+    let reply = library::judge(request, &mut rows, text);
+    for (place, Row { node, branch, rank }) in places.iter_mut().zip(rows) {
+        *place = (node as u64, branch as u64, rank as u64);
+    }
+    sheets::answer(reply)
 }
 
 /// An answer as it stands in the report of a failure.
@@ -462,7 +516,7 @@ impl Test {
             return None;
         }
         let printed = String::from_utf8_lossy(&text[..reply.length]).to_string();
-        self.counts.add(&reply, &printed);
+        self.counts.add(asks_all(request), parts, &reply, &printed);
         if reply.number == 0 {
             return Some(printed);
         }
@@ -476,11 +530,45 @@ impl Test {
     fn request(&mut self, name: &str, request: &[u8]) -> Option<String> {
         if self.random.chance(5) {
             let parts = Parts::short(&mut self.random);
-            self.counts.short += 1;
             self.call(name, request, &parts);
         }
-        let parts = Parts::enough(&mut self.random);
-        self.call(name, request, &parts)
+        let all = asks_all(request);
+        if all && self.random.chance(30) {
+            let parts = Parts::few(&mut self.random);
+            self.call(name, request, &parts);
+        }
+        let parts = Parts::enough(&mut self.random, all);
+        let printed = self.call(name, request, &parts)?;
+        if let Some(sheet) = request.strip_suffix(b"makeall\n") {
+            self.one_by_one(name, sheet, &printed, &parts);
+        }
+        Some(printed)
+    }
+
+    /// What `makeall` printed are the library's own answers to `make` for one participant after the other,
+    /// and so are the rows that stand in the lent part.
+    fn one_by_one(&mut self, name: &str, sheet: &[u8], printed: &str, parts: &Parts) {
+        if printed.starts_with("refused") {
+            return;
+        }
+        let participants = String::from_utf8_lossy(sheet);
+        let participants = participants.split(',').nth(1).and_then(|k| k.parse().ok());
+        let mut lines = Vec::new();
+        for participant in 0..participants.unwrap_or(0) {
+            let make = format!("make,{participant}\n");
+            let request = [sheet, make.as_bytes()].concat();
+            let reply = library::judge(&request, &mut self.rows, &mut self.text);
+            lines.extend_from_slice(&self.text[..reply.length]);
+            let first = parts.rows.start + library::ROWS * participant;
+            if self.memory.rows[first..first + library::ROWS] != self.rows {
+                let what = format!("other rows of participant {participant}");
+                self.failed(name, &what, &request, "those of `make`", printed);
+            }
+        }
+        if printed.as_bytes() != lines {
+            let due = String::from_utf8_lossy(&lines).to_string();
+            self.failed(name, "`make` one by one", sheet, &due, printed);
+        }
     }
 
     /// A request whose answer is known by hand.
@@ -508,38 +596,17 @@ impl Test {
         Ok(cases.len())
     }
 
-    /// 1 comes before short buffers, and these before reading.
-    fn buffers_by_hand(&mut self) {
-        let long = vec![b'a'; model::REQUEST_BYTES + 1];
-        let make = format!("{}make,0\n", cases::T).into_bytes();
-        let requests: [&[u8]; 4] = [&long, &make, b"", b"nonsense"];
-        let lengths = [
-            (0, 0),
-            (0, library::TEXT),
-            (library::ROWS, 0),
-            (library::ROWS - 1, library::TEXT),
-            (library::ROWS, library::TEXT - 1),
-            (Memory::ROWS, library::TEXT - 1),
-            (library::ROWS - 1, Memory::TEXT),
-            (library::ROWS, library::TEXT),
-            (Memory::ROWS, Memory::TEXT),
-        ];
-        for request in requests {
-            for (row_count, text_length) in lengths {
-                let enough = row_count >= library::ROWS && text_length >= library::TEXT;
-                let due = match (request.len(), enough) {
-                    (65_537, _) => "refused,1,0,0\n",
-                    (_, false) => "refused,7,0,0\n",
-                    (0, _) => "refused,2,1,1\n",
-                    (8, _) => "refused,3,1,1\n",
-                    _ => "row,0,1,1\nrow,1,0,1\nliquid,0,2,1\n",
-                };
-                self.counts.short += usize::from(!enough);
-                let parts = Parts::of(&mut self.random, row_count, text_length);
-                let printed = self.call("buffers", request, &parts);
-                self.compare("buffers", request, due, printed);
+    /// Lent buffers by hand.
+    fn buffers(&mut self) -> usize {
+        let cases = buffers::by_hand();
+        for case in &cases {
+            if let Some(fault) = case.fault(call) {
+                self.failed(&case.name, &fault, &case.request, "by hand", "");
             }
+            let parts = Parts::of(&mut self.random, case.places, case.bytes);
+            self.call(&case.name, &case.request, &parts);
         }
+        cases.len()
     }
 
     /// Each sheet NAME.txt of the folder has its verdicts by participant in NAME.expected.
@@ -553,6 +620,14 @@ impl Test {
                 let last = printed.and_then(|lines| lines.lines().last().map(str::to_string));
                 self.compare(name, request.as_bytes(), verdict, last);
             }
+            // All of them at once.
+            let request = format!("{sheet}makeall\n");
+            let printed = self.request(name, request.as_bytes());
+            let last = printed.map(|lines| {
+                let lines = lines.split_inclusive('\n');
+                lines.filter(|line| !line.starts_with("row,")).collect()
+            });
+            self.compare(name, request.as_bytes(), &expected, last);
             // One participant more than there are verdicts.
             let request = format!("{sheet}make,{}\n", expected.lines().count());
             let line = sheet.lines().count() + 1;
@@ -606,8 +681,12 @@ impl Test {
             counts.made, counts.checked, counts.frozen, counts.plays, counts.taken
         );
         println!(
-            "  {} calls, {} with short buffers, {} after garbage; most rows {}, longest text {}",
-            counts.calls, counts.short, counts.garbage, counts.most_rows, counts.longest_text
+            "  all parties {}, some of them liquid {}, too few rows for them {}",
+            counts.parties, counts.mixed, counts.few
+        );
+        println!(
+            "  {} calls, {} with short buffers, {} with long ones, {} after garbage; most rows {}, longest text {}",
+            counts.calls, counts.short, counts.long, counts.garbage, counts.most_rows, counts.longest_text
         );
     }
 }
@@ -617,12 +696,13 @@ fn run(seed: u64, count: usize, folder: &Path, lists: &Path) -> Result<usize, St
     println!("{tried} altered answers were noticed");
     let mut test = Test {
         memory: Memory::new(),
+        rows: vec![Row::default(); library::ROWS],
+        text: vec![0; library::TEXT],
         random: Random::new(seed),
         counts: Counts::default(),
         failures: 0,
     };
-    let cases = test.cases(lists)?;
-    test.buffers_by_hand();
+    let cases = test.cases(lists)? + test.buffers();
     let examples = test
         .examples(folder)
         .map_err(|error| format!("{}: {error}", folder.display()))?;

@@ -108,7 +108,7 @@ fn comparison_can_fail() -> Result<(), String> {
     }
 }
 
-fn answer(reply: library::Reply) -> Answer {
+pub fn answer(reply: library::Reply) -> Answer {
     Answer {
         number: reply.number,
         line: reply.line,

@@ -7,7 +7,7 @@
 //! target/tests/judge [JUDGE [SHEET]]     target/bin/judge, examples/timed_commitment.txt if not given
 //! ```
 //!
-//! The sheet NAME.txt is liquid for participant 0, by the first line of NAME.expected.  No answer
+//! NAME.expected has the verdicts on the sheet NAME.txt, which is liquid for participant 0.  No answer
 //! hangs on a time: a piece is late because the program has ended before it would come.
 
 use std::error::Error;
@@ -44,6 +44,9 @@ struct Requests {
     sheet: String,
     make: String,
     made: String,
+    /// `makeall`, and what `make` gives for one participant after the other.
+    all: String,
+    parties: String,
     /// With the rows that `make` gives.
     check: String,
     checked: String,
@@ -53,18 +56,23 @@ struct Requests {
 }
 
 impl Requests {
-    fn new(sheet: String, verdict: &str, made: String) -> Tried<Requests> {
-        let (rows, last) = made.trim_end().rsplit_once('\n').ok_or("no rows")?;
-        if last != verdict || !last.starts_with("liquid,0,") {
-            return Err(format!("the sheet: due {verdict}, got {last}").into());
+    /// By the verdicts on the sheet, and what `make` gives for each participant.
+    fn new(sheet: String, verdicts: &str, made: &[String]) -> Tried<Requests> {
+        let last = |lines: &String| lines.lines().last().map(str::to_string);
+        let got: Vec<String> = made.iter().filter_map(last).collect();
+        if !verdicts.lines().eq(&got) || !verdicts.starts_with("liquid,0,") {
+            return Err(format!("the sheet: due {verdicts:?}, got {got:?}").into());
         }
+        let (rows, verdict) = made[0].trim_end().rsplit_once('\n').ok_or("no rows")?;
         let check = format!("{sheet}check,0\n{rows}\n");
         Ok(Requests {
             make: format!("{sheet}make,0\n"),
+            made: made[0].clone(),
+            all: format!("{sheet}makeall\n"),
+            parties: made.concat(),
             checked: format!("{verdict}\n"),
             row: rows.lines().take(1).map(|row| format!("{row}\n")).collect(),
             twice: format!("refused,10,{},0\n", check.lines().count() + 1),
-            made,
             sheet,
             check,
         })
@@ -238,14 +246,16 @@ impl Test {
         let (start, rest) = play.split_at(PAGE + 1);
         let (middle, end) = rest.split_at(rest.len() - 1);
         let twice = format!("{}{}", r.check, r.row);
-        let cases: [(&[&str], &str); 9] = [
+        let cases: [(&[&str], &str); 11] = [
             (&[&r.make], &r.made),
+            (&[&r.all], &r.parties),
             (&[&r.check], &r.checked),
             (&[&twice], &r.twice),
             (&[&play], &played),
             (&[], "refused,2,1,1\n"),
             (&[&r.sheet, "make,0\n"], &r.made),
             (&[&r.sheet, "make", ",0", "\n"], &r.made),
+            (&[&r.sheet, "make", "all", "\n"], &r.parties),
             (&[&r.check, &r.row], &r.twice),
             (&[start, middle, end], &played),
         ];
@@ -254,7 +264,7 @@ impl Test {
             self.answers(&name, pieces(parts)?, due)?;
         }
         // Each datagram is a read of its own, and an empty one is the end.
-        for (parts, due) in &cases[5..8] {
+        for (parts, due) in &cases[6..10] {
             let (ours, theirs) = UnixDatagram::pair()?;
             for part in *parts {
                 ours.send(part.as_bytes())?;
@@ -271,6 +281,7 @@ impl Test {
             ("a row is late", &r.check),
             ("the last line is late", &r.sheet),
             ("the end is late", &r.make),
+            ("the end of all parties is late", &r.all),
             ("all is late", &String::new()),
         ] {
             let (other_end, input) = impatient_input(bytes)?;
@@ -364,12 +375,14 @@ impl Test {
 
     fn all(&mut self, sheet: &Path) -> Tried<()> {
         let verdicts = std::fs::read_to_string(sheet.with_extension("expected"))?;
-        let verdict = verdicts.lines().next().unwrap_or_default();
         let sheet = std::fs::read_to_string(sheet)?;
-        let make = pieces(&[&format!("{sheet}make,0\n")])?;
-        let made = self.start(make, Stdio::piped())?.wait_with_output()?;
-        let made = String::from_utf8(made.stdout)?;
-        let requests = Requests::new(sheet, verdict, made)?;
+        let mut made = Vec::new();
+        for participant in 0..verdicts.lines().count() {
+            let make = pieces(&[&format!("{sheet}make,{participant}\n")])?;
+            let output = self.start(make, Stdio::piped())?.wait_with_output()?;
+            made.push(String::from_utf8(output.stdout)?);
+        }
+        let requests = Requests::new(sheet, &verdicts, &made)?;
         self.in_pieces(&requests)?;
         self.inputs_that_fail(&requests)?;
         self.lengths()?;

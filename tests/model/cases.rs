@@ -52,6 +52,7 @@ pub fn by_hand() -> Vec<Case> {
     request_bytes(&mut cases);
     contracts_made(&mut cases);
     longest_reply(&mut cases);
+    parties(&mut cases);
     cases.list
 }
 
@@ -555,4 +556,70 @@ fn longest_reply(cases: &mut Cases) {
         &request,
         &format!("{}end,9350,1,0", "taken\n".repeat(9_350)),
     );
+}
+
+/// 512 nodes for 16 participants: a root and 73 parts of 7 nodes each, nine splits of eight parts and
+/// one of one part.  `last` is the contract of node 511, the last of that part.
+pub fn sixteen_parties(last: &str) -> String {
+    let leaf = "1,c,1,0,0,w,0";
+    let part = format!("1,c,1,0,0,s,6,{}", vec![leaf; 6].join(","));
+    let eight = format!("0,0,s,8,{}", vec![part.as_str(); 8].join(","));
+    let nine = vec![eight; 9].join(",");
+    let five = vec![leaf; 5].join(",");
+    let zeros = ",0".repeat(16);
+    format!("bitml,16,1\ndef{zeros},0,c,10,{nine},0,0,s,1,1,c,1,0,0,s,6,{five},1,{last}\n")
+}
+
+/// The rows of that sheet where node 511 has an exit by this branch: 1 for a leaf, 7 for a part, and the
+/// split of one part is the cheapest.
+pub fn rows_of_sixteen(branch: usize) -> String {
+    let row = |node: usize| match node {
+        0 => "row,0,9,8\n".to_string(),
+        511 => format!("row,511,{branch},1\n"),
+        _ if node % 7 == 1 => format!("row,{node},0,7\n"),
+        _ => format!("row,{node},0,1\n"),
+    };
+    (0..512).map(row).collect()
+}
+
+/// `makeall` at its largest, and behind a sheet of 32,768 bytes, whose limit is not one of this line.
+fn parties(cases: &mut Cases) {
+    let sheet = sixteen_parties("c,1,0,0,w,0");
+    let all = |who| format!("{}liquid,{who},512,8\n", rows_of_sixteen(0));
+    let due: String = (0..16).map(all).collect();
+    cases.expect(
+        "512 nodes, liquid for all of 16",
+        &format!("{sheet}makeall\n"),
+        due.trim_end(),
+    );
+    // Every other participant signs a branch of node 511.  Without it node 505, which holds it, has no exit.
+    let signed: String = (0..8)
+        .map(|branch| format!(",{},0,w,0", 1 << (2 * branch)))
+        .collect();
+    let sheet = sixteen_parties(&format!("c,8{signed}"));
+    let other = |who: usize| match who % 2 {
+        0 => format!("{}liquid,{who},512,8\n", rows_of_sixteen(who / 2)),
+        _ => format!("frozen,{who},505\n"),
+    };
+    let due: String = (0..16).map(other).collect();
+    cases.expect(
+        "512 nodes, liquid for every other of 16",
+        &format!("{sheet}makeall\n"),
+        due.trim_end(),
+    );
+    let full = sheet_up_to(32_768 - 8) + "0,0,w,0\n";
+    let line = full.lines().count() + 1;
+    cases.expect("a full sheet", &format!("{full}makeall\n"), "frozen,0,0");
+    cases.refused("a full sheet, no LF", &format!("{full}makeall"), 2, line, 2);
+    cases.refused(
+        "a full sheet, a field too many",
+        &format!("{full}makeall,\n"),
+        9,
+        line,
+        2,
+    );
+    let mut longest = format!("{W}makeall\n");
+    longest += &"x".repeat(65_536 - longest.len());
+    cases.refused("65,536 bytes, a line too many", &longest, 9, 4, 1);
+    cases.refused("65,537 bytes with it", &format!("{longest}x"), 1, 0, 0);
 }

@@ -1,5 +1,5 @@
-//! A generator of requests for document 01: valid ones of every shape, `make`, `check` and `play`,
-//! and damaged ones.  The same seed always gives the same requests.
+//! A generator of requests for document 01: valid ones of every shape, `make`, `makeall`, `check` and
+//! `play`, and damaged ones.  The same seed always gives the same requests.
 //!
 //! Use: `Generator::new(seed)` is an endless iterator of requests (bytes).  The module stands
 //! beside `model` (it uses the model's reader, rows and ledger to make rows that are accepted and
@@ -187,8 +187,9 @@ struct Shape {
 
 impl Shape {
     fn random(random: &mut Random) -> Shape {
+        let most = random.pick(&[4, 4, 4, 4, 4, 16]);
         let mut shape = Shape {
-            participants: random.between(1, 4),
+            participants: random.between(1, most),
             definitions: 1,
             nodes: random.between(1, 30),
             branches: 100,
@@ -282,6 +283,11 @@ impl Shape {
                 shape.condition = 12;
                 shape.secrets = random.between(1, 8);
             }
+        }
+        if random.chance(10) {
+            // Nobody signs and nobody has a secret: where it is easy it is so for all.
+            shape.unsigned = 100;
+            shape.secrets = 0;
         }
         shape.nodes = shape.nodes.max(shape.definitions);
         shape
@@ -626,13 +632,13 @@ const EDGES: [Edge; 10] = [
 ];
 
 /// Every word of the language.
-const WORDS: [&str; 26] = [
+const WORDS: [&str; 27] = [
     "bitml", "def", "c", "w", "s", "r", "g", "t", "and", "not", "eq", "lt", "k", "v", "add", "sub",
-    "make", "check", "row", "play", "x", "wait", "sign", "tell", "fire", "renew",
+    "make", "makeall", "check", "row", "play", "x", "wait", "sign", "tell", "fire", "renew",
 ];
 
 /// Texts that come close to a word or a number, and numbers at the edge of some range.
-const TEXTS: [&str; 54] = [
+const TEXTS: [&str; 56] = [
     "",
     "0",
     "1",
@@ -684,6 +690,8 @@ const TEXTS: [&str; 54] = [
     "g",
     "row",
     "wait",
+    "makeal",
+    "makealls",
     "1\r",
     "t\r",
     "\u{0661}",
@@ -919,11 +927,16 @@ impl Generator {
         }
         let mut draft = self.any_sheet();
         self.add_last_part(&mut draft);
-        if self.random.chance(30) {
+        let mut bytes = if self.random.chance(30) {
             self.damage(draft)
         } else {
             draft.bytes()
+        };
+        if self.random.chance(2) {
+            // Without its final LF.
+            bytes.pop();
         }
+        bytes
     }
 
     // -- last parts ---------------------------------------------------------------------------
@@ -942,7 +955,7 @@ impl Generator {
                 .push(vec![word("make"), number(0, Role::Participant)]);
             return;
         };
-        match self.random.below(10) {
+        match self.random.below(12) {
             0..=2 => {
                 let participant = self.random.below(sheet.participants);
                 draft.lines.push(vec![
@@ -950,7 +963,8 @@ impl Generator {
                     number(participant as u64, Role::Participant),
                 ]);
             }
-            3..=5 => self.add_check(draft, &sheet),
+            3 | 4 => self.add_make_all(draft),
+            5..=7 => self.add_check(draft, &sheet),
             _ => {
                 // Large sheets and renewals allow plays that make many contracts.
                 let large = sheet.nodes.len() >= 60 || sheet.nodes.len() > 8 && renews(&sheet);
@@ -964,6 +978,20 @@ impl Generator {
                 let events = self.random.between(most / 4, most);
                 self.add_play(draft, &sheet, events, 60_000);
             }
+        }
+    }
+
+    /// `makeall`, now and then with a field or a line too many.
+    fn add_make_all(&mut self, draft: &mut Draft) {
+        let mut line = vec![word("makeall")];
+        if self.random.chance(5) {
+            line.push(word(self.random.pick(&["", "0", "x"])));
+        }
+        draft.lines.push(line.clone());
+        if self.random.chance(5) {
+            let make = vec![word("make"), number(0, Role::Participant)];
+            let behind = self.random.pick(&[Vec::new(), make, line]);
+            draft.lines.push(behind);
         }
     }
 

@@ -9,9 +9,10 @@
 //! ./model wrong [CASES]                 do the cases pin the rules? (only with --cfg wrong_rules)
 //! ```
 //!
-//! CASES is the folder of the lists of cases, crates/cases/specs/Cases if not given; cases.rs has more, and
-//! tables.rs those of sheets as tables.
+//! CASES is the folder of the lists of cases, crates/cases/specs/Cases if not given; cases.rs has more,
+//! tables.rs those of sheets as tables, and buffers.rs those of lent buffers.
 
+mod buffers;
 mod cases;
 #[path = "gen.rs"]
 mod generate;
@@ -26,7 +27,7 @@ use std::io::{Read, Write};
 use std::path::Path;
 use std::time::{Duration, Instant};
 
-use cases::{sheet_up_to, Case, D, M, R, T};
+use cases::{sheet_up_to, sixteen_parties, Case, D, R, T};
 use generate::{Generator, Random};
 use model::sheets::{self, read_sheet, write_sheet};
 use model::{Action, Condition, Expression, LastPart, Ledger, Reply, Row, Sheet};
@@ -49,8 +50,8 @@ impl Cases {
                 "{name}\n  request {shown}\n  due {due:?}\n  got {printed:?}"
             ));
         }
-        // The row buffer is empty unless the sheet was found liquid.
-        if rows.is_empty() == printed.contains("liquid,") {
+        // The row buffer is zero unless the sheet was found liquid.
+        if rows.iter().any(|(_, _, rank)| *rank > 0) != printed.contains("liquid,") {
             self.failed
                 .push(format!("{name}: row buffer {rows:?} with {printed:?}"));
         }
@@ -62,17 +63,6 @@ impl Cases {
             self.failed.push(name.to_string());
         }
     }
-}
-
-/// The rows as the buffer holds them.
-fn row_buffer(cases: &mut Cases) {
-    let (_, given) = model::judge(format!("{T}check,0\nrow,1,0,7\nrow,0,0,9\n").as_bytes());
-    cases.holds("rows of check as given", given == [(1, 0, 7), (0, 0, 9)]);
-    let (_, made) = model::judge(format!("{M}make,1\n").as_bytes());
-    cases.holds(
-        "rows of make",
-        made == [(0, 1, 1), (1, 0, 4), (2, 0, 3), (3, 0, 1), (4, 0, 1)],
-    );
 }
 
 /// The reader's own data: T as read.
@@ -427,6 +417,7 @@ fn limits_reached(bytes: &[u8]) -> Vec<&'static str> {
     ];
     match &request.part {
         LastPart::Make { .. } => {}
+        LastPart::MakeAll => reached.push(("16 parties", sheet.participants == 16)),
         LastPart::Check { rows, .. } => reached.push(("512 rows", rows.len() == 512)),
         LastPart::Play { values, events } => {
             let mut ledger = Ledger::stipulate(sheet, values);
@@ -449,7 +440,7 @@ fn limits_reached(bytes: &[u8]) -> Vec<&'static str> {
         .collect()
 }
 
-const LIMITS: [&str; 16] = [
+const LIMITS: [&str; 17] = [
     "16 participants",
     "32 definitions",
     "512 nodes",
@@ -461,6 +452,7 @@ const LIMITS: [&str; 16] = [
     "all deposits in one definition",
     "32,768 bytes of sheet",
     "65,536 bytes",
+    "16 parties",
     "512 rows",
     "time 4,294,967,295",
     "256 contracts made",
@@ -477,6 +469,9 @@ struct Counts {
     made_liquid: usize,
     checked_liquid: usize,
     frozen: usize,
+    /// Answers to `makeall`, and those that are liquid for some and frozen for others.
+    parties: usize,
+    mixed: usize,
     taken: usize,
     events: usize,
     plays: usize,
@@ -512,6 +507,11 @@ fn generated(seed: u64, count: usize) -> Counts {
             }
             Reply::Text(text) => text,
         };
+        if request.ends_with(b"\nmakeall\n") {
+            counts.parties += 1;
+            let mixed = text.contains("liquid,") && text.contains("frozen,");
+            counts.mixed += usize::from(mixed);
+        }
         for line in text.lines() {
             let fields: Vec<&str> = line.split(',').collect();
             match fields[0] {
@@ -523,7 +523,7 @@ fn generated(seed: u64, count: usize) -> Counts {
                     counts.refused_events[fields[1].parse().unwrap_or(0)] += 1;
                     counts.events += 1;
                 }
-                "liquid" if text.starts_with("row") => counts.made_liquid += 1,
+                "liquid" if text.contains("row,") => counts.made_liquid += 1,
                 "liquid" => counts.checked_liquid += 1,
                 "frozen" => counts.frozen += 1,
                 "end" => counts.plays += 1,
@@ -566,6 +566,7 @@ fn speed(cases: &mut Cases) {
         ),
         ("484 rows", rows.clone()),
         ("a wide make", format!("{wide}make,0\n")),
+        ("16 parties", sixteen_parties("c,1,0,0,w,0") + "makeall\n"),
         ("signatures", fill(format!("{D}play\n"), "sign,0,0,0\n")),
         (
             "renewals",
@@ -639,11 +640,15 @@ fn examples(cases: &mut Cases, folder: &Path) {
             continue;
         };
         let found = verdicts(&sheet);
+        let all = [&sheet[..], b"makeall\n"].concat();
+        let all = model::judge(&all).0.printed();
+        let all = all.lines().filter(|line| !line.starts_with("row,"));
         let name = path
             .file_stem()
             .unwrap_or_default()
             .to_string_lossy()
             .to_string();
+        cases.holds(&format!("all parties of example {name}"), all.eq(&found));
         let mut note = "";
         if let Ok(expected) = std::fs::read_to_string(path.with_extension("expected")) {
             let agree = expected.lines().eq(found.iter().map(String::as_str));
@@ -671,8 +676,11 @@ fn selftest(folder: &Path, lists: &Path) -> Result<bool, String> {
         let fault = case.fault(read_sheet, write_sheet).unwrap_or_default();
         cases.holds(&format!("{}: {fault}", case.name), fault.is_empty());
     }
+    for case in buffers::by_hand() {
+        let fault = case.fault(model::call).unwrap_or_default();
+        cases.holds(&format!("{}: {fault}", case.name), fault.is_empty());
+    }
     lists_are_strict(&mut cases);
-    row_buffer(&mut cases);
     sheet_as_read(&mut cases);
     println!("cases: {} run, {} failed", cases.run, cases.failed.len());
     println!("speed:");
@@ -698,9 +706,11 @@ fn selftest(folder: &Path, lists: &Path) -> Result<bool, String> {
         }
     }
     println!(
-        "  make liquid {}, make frozen {}, check liquid {}, plays {}, events {}, taken {}",
+        "  made liquid {}, frozen {}, all parties {}, some of them liquid {}, check liquid {}, plays {}, events {}, taken {}",
         counts.made_liquid,
         counts.frozen,
+        counts.parties,
+        counts.mixed,
         counts.checked_liquid,
         counts.plays,
         counts.events,
@@ -719,6 +729,8 @@ fn selftest(folder: &Path, lists: &Path) -> Result<bool, String> {
         ("liquid by make", counts.made_liquid),
         ("liquid by check", counts.checked_liquid),
         ("frozen", counts.frozen),
+        ("all parties", counts.parties),
+        ("some parties liquid", counts.mixed),
         ("taken", counts.taken),
     ] {
         cases.holds(what, count > 0);
@@ -739,7 +751,12 @@ fn selftest(folder: &Path, lists: &Path) -> Result<bool, String> {
 #[cfg(wrong_rules)]
 fn wrong(lists: &Path) -> Result<bool, String> {
     let lists = lists::read(lists)?;
-    Ok(pins::test(&lists, &cases::by_hand(), &tables::by_hand()))
+    Ok(pins::test(
+        &lists,
+        &cases::by_hand(),
+        &tables::by_hand(),
+        &buffers::by_hand(),
+    ))
 }
 
 fn main() -> std::process::ExitCode {

@@ -1,13 +1,15 @@
-//! A model of document 01, "BitML liquidity: sheet, rows and ledger", in plain Rust.
+//! A model of document 01, "BitML liquidity: sheet, rows and ledger", and of the change requests
+//! (docs/changes), in plain Rust.
 //!
-//! It is written straight from the document, in the order of the document, and shares no code
+//! It is written straight from the documents, in the order of document 01, and shares no code
 //! with the verified program.  It looks for plainness, not for speed: owned trees, growing lists
 //! and no tricks.  The tests compare the verified program with it.
 //!
 //! * [`read`] is the reader: bytes to a [`Request`], or the first [`Refusal`].
 //! * [`exits`], [`reached`], [`make`] and [`check`] are the judging part.
 //! * [`Ledger`] is the program's ledger; [`Ledger::step`] is one event.
-//! * [`judge`] is the whole program: bytes to what it prints, and the row buffer.
+//! * [`judge`] is the whole program: bytes to what it prints, and the row buffer; [`judge_lent`] is
+//!   the same for buffers of any length, and [`call`] fills them.
 //! * [`sheets`] has a sheet as a table, from its text and back.
 //!
 //! `rule!`, `limit!` and `lower!` are of wrong.rs.  What comes first in a `rule!` is the rule; what
@@ -18,6 +20,8 @@
 pub mod wrong;
 #[path = "sheets.rs"]
 pub mod sheets;
+
+use sheets::Answer;
 
 // ---------------------------------------------------------------------------------------------
 // Limits
@@ -46,6 +50,10 @@ pub const SATOSHI: u64 = 2_100_000_000_000_000;
 /// The latest opening time, the longest wait, and the latest time of the program's ledger.
 pub const TIME: u64 = 4_294_967_295;
 pub const ROWS: usize = 512;
+/// Places of the row buffer that `makeall` asks for, whatever K is; every other word asks for 512.
+pub const ALL_ROWS: usize = 8_192;
+/// Bytes of the text buffer that every word asks for.
+pub const TEXT_BYTES: usize = 180_224;
 pub const RANK: u64 = 65_535;
 /// The largest number in the fields c, b, i and j of an event.
 pub const EVENT_FIELD: u64 = 65_535;
@@ -64,12 +72,22 @@ pub struct Refusal {
     pub field: usize,
 }
 
+/// A refusal that no line is the reason of.
+fn nowhere(number: u32) -> Refusal {
+    let (line, field) = (0, 0);
+    Refusal {
+        number,
+        line,
+        field,
+    }
+}
+
 /// A request as read: the sheet, its last part, and the line on which the last part begins.
 #[derive(Clone, Debug, PartialEq, Eq)]
 pub struct Request {
     pub sheet: Sheet,
     pub part: LastPart,
-    /// Line of the word `make`, `check` or `play`; rows and events stand on the lines after it.
+    /// Line of the word of the last part; rows and events stand on the lines after it.
     pub line: usize,
 }
 
@@ -154,6 +172,8 @@ pub enum LastPart {
     Make {
         participant: usize,
     },
+    /// `make` for every participant.
+    MakeAll,
     Check {
         participant: usize,
         rows: Vec<Row>,
@@ -687,18 +707,20 @@ impl<'a> Reader<'a> {
 
     fn last_part(&mut self) -> Result<LastPart, Refusal> {
         self.begin_line();
-        match self.word(&["make", "check", "play"], [])? {
+        match self.word(&["make", "makeall", "check", "play"], [])? {
             "make" => {
                 let participant = self.thing(limit!(Maker, self.participants))?;
                 self.end_line()?;
-                let rest = self.request.len() - self.position;
-                if rule!(rest > 0; MoreLinesAllowed: false, EmptyLineAllowed: rest > 1) {
-                    // A line too many, whatever stands in it.
-                    self.begin_line();
-                    self.field = 1;
-                    return Err(self.refusal(rule!(9; ExtraLineIsThree: 3)));
-                }
+                self.end_request(rule!(0; MoreLinesAllowed: usize::MAX, EmptyLineAllowed: 1))?;
                 Ok(LastPart::Make { participant })
+            }
+            "makeall" => {
+                if rule!(false; AllAsksAField: true, AllTakesAField: self.next == Next::Field) {
+                    self.thing(self.participants)?;
+                }
+                self.end_line()?;
+                self.end_request(rule!(0; MoreLinesAfterAll: usize::MAX, EmptyLineAfterAll: 1))?;
+                Ok(LastPart::MakeAll)
             }
             "check" => {
                 let participant = self.thing(limit!(CheckedFor, self.participants))?;
@@ -730,6 +752,16 @@ impl<'a> Reader<'a> {
                 Ok(LastPart::Play { values, events })
             }
         }
+    }
+
+    /// The request must be over but for so many bytes: a line too many gets 9, whatever stands in it.
+    fn end_request(&mut self, allowed: usize) -> Result<(), Refusal> {
+        if self.request.len() - self.position <= allowed {
+            return Ok(());
+        }
+        self.begin_line();
+        self.field = 1;
+        Err(self.refusal(rule!(9; ExtraLineIsThree: 3)))
     }
 
     /// Reads a row line, after `before` others.
@@ -1539,60 +1571,177 @@ impl From<Refusal> for Reply {
     }
 }
 
-/// The rows as numbers: node, branch, rank.
-fn buffer(rows: &[Row]) -> Vec<(u64, u64, u64)> {
+/// A place of the row buffer: node, branch, rank.
+pub type Place = (u64, u64, u64);
+
+fn buffer(rows: &[Row]) -> Vec<Place> {
     rows.iter()
         .map(|row| (row.node as u64, row.branch as u64, row.rank))
         .collect()
 }
 
-/// Answers a request.  The second part is what the row buffer holds afterwards (it is zero past
-/// that): the rows of `make` in rising node order, those of an accepted `check` as given.
-pub fn judge(request: &[u8]) -> (Reply, Vec<(u64, u64, u64)>) {
-    let Request { sheet, part, line } = match read(request) {
-        Ok(request) => request,
+/// What is printed, and what the row buffer holds afterwards before its zeros.
+type Printed = (String, Vec<Place>);
+
+/// Answers a request as the program does, which lends as much as any request asks for.
+pub fn judge(request: &[u8]) -> (Reply, Vec<Place>) {
+    judge_lent(request, ALL_ROWS, TEXT_BYTES)
+}
+
+/// Answers a request with so many places for rows and so many bytes for text lent.  The second part
+/// is what the row buffer holds afterwards (it is zero past that): the rows of `make` in rising node
+/// order, those of an accepted `check` as given, those of `makeall` by participant.
+pub fn judge_lent(request: &[u8], places: usize, bytes: usize) -> (Reply, Vec<Place>) {
+    match answer(request, places, bytes) {
+        Ok((text, held)) => (Reply::Text(text), held),
         Err(refusal) => {
             let reply = refusal.into();
             let reply = rule!(reply; JudgedWhileReading: wrong::judged_before(request, reply));
-            return (reply, Vec::new());
+            (reply, Vec::new())
         }
-    };
-    match part {
-        LastPart::Make { participant } => match make(&sheet, participant) {
-            Ok(rows) => {
-                let mut text = String::new();
-                for Row { node, branch, rank } in &rows {
-                    let definition = sheet.nodes[*node].definition;
-                    let node = rule!(*node;
-                        NumberedFrom1: node + 1,
-                        NumberedByDefinition: node - sheet.definitions[definition].root,
-                        NumberedPartsFirst: wrong::parts_first(&sheet, *node));
-                    text += &format!("row,{node},{branch},{rank}\n");
-                }
-                text += &liquid(&sheet, participant, &rows);
-                (Reply::Text(text), buffer(&rows))
-            }
-            Err(node) => {
-                let found = || exits(&sheet, participant).into_iter().flatten();
-                let rows = rule!(String::new(); FrozenWithRows: wrong::rows_as_text(found()));
-                let text = format!("{rows}frozen,{participant},{node}\n");
-                (Reply::Text(text), Vec::new())
-            }
-        },
-        LastPart::Check { participant, rows } => match check(&sheet, participant, &rows, line) {
-            Ok(()) => {
-                let given = rule!(String::new();
-                    CheckPrintsRows: wrong::rows_as_text(rows.iter().copied()));
-                let text = given + &liquid(&sheet, participant, &rows);
-                (Reply::Text(text), buffer(&rows))
-            }
-            Err(refusal) => (refusal.into(), Vec::new()),
-        },
-        LastPart::Play { values, events } => (
-            Reply::Text(play(&sheet, &values, &events, line)),
-            Vec::new(),
-        ),
     }
+}
+
+/// 1, then short buffers, then reading, then the places that `makeall` asks for, then judging.
+fn answer(request: &[u8], places: usize, bytes: usize) -> Result<Printed, Refusal> {
+    let too_long = request.len() > limit!(RequestBytes, REQUEST_BYTES);
+    let short = places < limit!(LentRows, ROWS) || bytes < limit!(LentText, TEXT_BYTES);
+    let short = rule!(short;
+        ShortBuffersAfter: false,
+        FewPlacesFirst: short || wrong::few_for_all(request, places));
+    if short && rule!(!too_long; ShortBuffersFirst: true) {
+        return Err(nowhere(7));
+    }
+    let Request { sheet, part, line } = read(request)?;
+    let all = rule!(part == LastPart::MakeAll; FewPlacesForAnyWord: true);
+    let asked = rule!(limit!(LentAllRows, ALL_ROWS);
+        FewPlacesByCount: ROWS * sheet.participants,
+        FewPlacesTaken: ROWS);
+    let few = all && places < asked;
+    if rule!(few; ShortBuffersAfter: few || places < ROWS || bytes < TEXT_BYTES) {
+        let told = nowhere(7);
+        return Err(rule!(told; FewPlacesAtTheWord: Refusal { line, field: 1, ..told }));
+    }
+    judge_part(&sheet, &part, line)
+}
+
+/// Judges the last part, which begins on this line.
+fn judge_part(sheet: &Sheet, part: &LastPart, line: usize) -> Result<Printed, Refusal> {
+    match part {
+        LastPart::Make { participant } => {
+            let (text, rows) = made(sheet, *participant);
+            Ok((text, buffer(&rows)))
+        }
+        LastPart::MakeAll => Ok(made_for_all(sheet)),
+        LastPart::Check { participant, rows } => {
+            check(sheet, *participant, rows, line)?;
+            let given = rule!(String::new();
+                CheckPrintsRows: wrong::rows_as_text(rows.iter().copied()));
+            Ok((given + &liquid(sheet, *participant, rows), buffer(rows)))
+        }
+        LastPart::Play { values, events } => Ok((play(sheet, values, events, line), Vec::new())),
+    }
+}
+
+/// The lines of `make`, and its rows; with `frozen` there are none.
+type Made = (String, Vec<Row>);
+
+/// What `make` answers.
+fn made(sheet: &Sheet, participant: usize) -> Made {
+    match make(sheet, participant) {
+        Ok(rows) => {
+            let mut text = String::new();
+            for Row { node, branch, rank } in &rows {
+                let definition = sheet.nodes[*node].definition;
+                let node = rule!(*node;
+                    NumberedFrom1: node + 1,
+                    NumberedByDefinition: node - sheet.definitions[definition].root,
+                    NumberedPartsFirst: wrong::parts_first(sheet, *node));
+                text += &format!("row,{node},{branch},{rank}\n");
+            }
+            text += &liquid(sheet, participant, &rows);
+            (text, rows)
+        }
+        Err(node) => {
+            let found = || exits(sheet, participant).into_iter().flatten();
+            let rows = rule!(String::new(); FrozenWithRows: wrong::rows_as_text(found()));
+            let text = format!("{rows}frozen,{participant},{node}\n");
+            let held = rule!(Vec::new(); FrozenHoldsRows: found().collect());
+            (text, held)
+        }
+    }
+}
+
+/// What `make` answers for participants 0 to K - 1, in that order.
+fn made_for_all(sheet: &Sheet) -> Printed {
+    let count = rule!(sheet.participants;
+        AllButTheLast: sheet.participants - 1,
+        AllAndOneMore: sheet.participants + 1,
+        AllSixteen: PARTICIPANTS as usize);
+    let mut answers: Vec<Made> = (0..count).map(|who| made(sheet, who)).collect();
+    rule!(();
+        AllBackwards: answers.reverse(),
+        AllEndAtFrozen: answers.truncate(wrong::up_to_frozen(&answers)),
+        AllFrozenIfOne: wrong::freeze_all(&mut answers),
+        AllFrozenLeftOut: answers.retain(|(_, rows)| !rows.is_empty()),
+        AllForTheFirst: wrong::first_for_all(&mut answers),
+        AllRowsCounted: wrong::count_so_far(&mut answers));
+    let lines = answers.iter().map(|(lines, _)| lines.as_str());
+    let text = rule!(lines.collect();
+        AllRowsFirst: wrong::rows_first(lines),
+        AllVerdictsOnly: wrong::lines_with(lines, |line| !line.starts_with("row")),
+        AllRowsOnly: wrong::lines_with(lines, |line| line.starts_with("row")));
+    (text, places_for_all(sheet, &answers))
+}
+
+/// The rows of participant p stand from place 512 x p on, with zeros past them.
+fn places_for_all(sheet: &Sheet, answers: &[Made]) -> Vec<Place> {
+    let each = limit!(PlacesEach, ROWS);
+    let mut places = vec![Place::default(); ALL_ROWS];
+    for (participant, (_, rows)) in answers.iter().enumerate() {
+        let first = rule!(each * participant;
+            PlacesFromTheFirst: 0,
+            PlacesBackwards: each * (answers.len() - 1 - participant),
+            PlacesByParticipants: ALL_ROWS / sheet.participants * participant,
+            PlacesByNodes: sheet.nodes.len() * participant,
+            PlacesTogether: wrong::rows_before(answers, participant),
+            FrozenWithoutPlaces: each * wrong::liquid_before(answers, participant));
+        places[first..first + rows.len()].copy_from_slice(&buffer(rows));
+    }
+    let frozen = answers.iter().any(|(_, rows)| rows.is_empty());
+    rule!((); FrozenClearsAll: if frozen { places.clear() });
+    places
+}
+
+/// Answers a request into the lent buffers, of which every place and every byte is written.
+pub fn call(request: &[u8], rows: &mut [Place], text: &mut [u8]) -> Answer {
+    let (reply, held) = judge_lent(request, rows.len(), text.len());
+    let printed = match &reply {
+        Reply::Text(printed) => printed.as_str(),
+        Reply::Refused { .. } => "",
+    };
+    let refused = printed.is_empty();
+    rule!(fill(rows, &held);
+        PastRowsKept: wrong::fill_but(rows, &held, wrong::past_rows(&held)),
+        FrozenPlacesKept: wrong::fill_but(rows, &held, wrong::frozen_places(&held, printed)),
+        OtherPlacesKept: wrong::fill_but(rows, &held, wrong::other_places(printed)),
+        FarPlacesKept: wrong::fill_but(rows, &held, |place| place >= ALL_ROWS),
+        RefusedRowsKept: wrong::fill_but(rows, &held, |_| refused),
+        RefusedPlacesKept: wrong::fill_but(rows, &held, |place| refused && place >= ROWS),
+        ShortRowsKept: if rows.len() >= ROWS { fill(rows, &held) });
+    let printed = printed.as_bytes();
+    rule!(fill(text, printed);
+        PastTextKept: text[..printed.len()].copy_from_slice(printed),
+        RefusedTextKept: if !refused { fill(text, printed) },
+        ShortTextKept: if text.len() >= TEXT_BYTES { fill(text, printed) });
+    reply.into()
+}
+
+/// What a buffer holds, as far as it reaches, and zeros past it.
+fn fill<T: Copy + Default>(buffer: &mut [T], held: &[T]) {
+    let length = held.len().min(buffer.len());
+    buffer[..length].copy_from_slice(&held[..length]);
+    buffer[length..].fill(T::default());
 }
 
 /// The `liquid` line: participant, count of rows, rank of node 0.

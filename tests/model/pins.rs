@@ -1,36 +1,53 @@
 //! The cases pin the rules: with each wrong rule of wrong.rs turned on, some case has another answer.
 
 use crate::cases::Case;
-use crate::model::judge;
 use crate::model::sheets::{read_sheet, write_sheet};
 use crate::model::wrong::{all, turn, Wrong, LARGE, OF_TABLES};
-use crate::tables;
+use crate::model::{call, judge};
+use crate::{buffers, tables};
 use std::panic::{catch_unwind, set_hook, take_hook};
 
 /// The names of the cases to which the model answers otherwise than is due.  A wrong rule may make it
 /// panic.
 fn caught(cases: &[Case], wrong: Option<Wrong>) -> Vec<&str> {
-    turn(wrong);
-    let other = |case: &&Case| {
-        let printed = catch_unwind(|| judge(&case.request).0.printed());
-        !printed.is_ok_and(|printed| printed == case.due)
-    };
-    let caught = cases.iter().filter(other).map(|case| case.name.as_str());
-    let caught = caught.collect();
-    turn(None);
-    caught
+    named(
+        cases,
+        wrong,
+        |case| &case.name,
+        |case| judge(&case.request).0.printed() == case.due,
+    )
 }
 
 fn caught_by_tables(cases: &[tables::Case], wrong: Option<Wrong>) -> Vec<&str> {
+    named(
+        cases,
+        wrong,
+        |case| &case.name,
+        |case| case.fault(read_sheet, write_sheet).is_none(),
+    )
+}
+
+fn caught_by_buffers(cases: &[buffers::Case], wrong: Option<Wrong>) -> Vec<&str> {
+    named(
+        cases,
+        wrong,
+        |case| &case.name,
+        |case| case.fault(call).is_none(),
+    )
+}
+
+/// The names of the cases for which this does not hold.
+fn named<C: std::panic::RefUnwindSafe>(
+    cases: &[C],
+    wrong: Option<Wrong>,
+    name: fn(&C) -> &str,
+    holds: fn(&C) -> bool,
+) -> Vec<&str> {
     turn(wrong);
-    let other = |case: &&tables::Case| {
-        let fault = catch_unwind(|| case.fault(read_sheet, write_sheet));
-        !fault.is_ok_and(|fault| fault.is_none())
-    };
-    let caught = cases.iter().filter(other).map(|case| case.name.as_str());
-    let caught = caught.collect();
+    let other = |case: &&C| !catch_unwind(|| holds(case)).is_ok_and(|holds| holds);
+    let names = cases.iter().filter(other).map(name).collect();
     turn(None);
-    caught
+    names
 }
 
 /// Is this a limit of tables?
@@ -38,14 +55,20 @@ fn of_tables(wrong: &Wrong) -> bool {
     matches!(wrong, Wrong::More(limit) | Wrong::Fewer(limit) if OF_TABLES.contains(limit))
 }
 
-/// `lists` are the cases of the lists, `large` those that are too long for them, `tables` those of sheets
-/// as tables, which alone catch what no request shows.
-pub fn test(lists: &[Case], large: &[Case], tables: &[tables::Case]) -> bool {
+/// `lists` are the cases of the lists, `large` those that are too long for them.  What no request shows is
+/// caught by `tables`, the cases of sheets as tables, or by `buffers`, those of lent buffers.
+pub fn test(
+    lists: &[Case],
+    large: &[Case],
+    tables: &[tables::Case],
+    buffers: &[buffers::Case],
+) -> bool {
     let mut failures: Vec<String> = Vec::new();
     let right = [
         caught(lists, None),
         caught(large, None),
         caught_by_tables(tables, None),
+        caught_by_buffers(buffers, None),
     ];
     for name in right.concat() {
         failures.push(format!("with no wrong rule on, {name}"));
@@ -63,7 +86,8 @@ pub fn test(lists: &[Case], large: &[Case], tables: &[tables::Case]) -> bool {
         let by = if is_large {
             caught(large, Some(*wrong))
         } else if by_lists.is_empty() {
-            caught_by_tables(tables, Some(*wrong))
+            let by_tables = caught_by_tables(tables, Some(*wrong));
+            [by_tables, caught_by_buffers(buffers, Some(*wrong))].concat()
         } else {
             by_lists
         };
@@ -81,11 +105,12 @@ pub fn test(lists: &[Case], large: &[Case], tables: &[tables::Case]) -> bool {
         println!("FAILED: {failure}");
     }
     println!(
-        "{} wrong rules, {} of them tried by long requests, {once} caught by one case only; {} cases of the lists, {} of tables, {} failed",
+        "{} wrong rules, {} of them tried by long requests, {once} caught by one case only; {} cases of the lists, {} of tables, {} of buffers, {} failed",
         rules.len(),
         LARGE.len(),
         lists.len(),
         tables.len(),
+        buffers.len(),
         failures.len()
     );
     failures.is_empty()

@@ -8,9 +8,9 @@
 #[cfg(wrong_rules)]
 use super::wrong;
 use super::{
-    Action, Branch, Condition, Definition, Expression, Node, Part, Reader, Refusal, Sheet,
-    BRANCHES, BRANCHES_OF_A_NODE, CONDITION_FIELDS, DEFINITIONS, DEPTH, NODES, PARTICIPANTS, PARTS,
-    REQUEST_BYTES, SATOSHI, SECRETS, SHEET_BYTES, TIME, VALUE, WEIGHT,
+    nowhere, Action, Branch, Condition, Definition, Expression, Node, Part, Reader, Refusal, Reply,
+    Sheet, BRANCHES, BRANCHES_OF_A_NODE, CONDITION_FIELDS, DEFINITIONS, DEPTH, NODES, PARTICIPANTS,
+    PARTS, REQUEST_BYTES, SATOSHI, SECRETS, SHEET_BYTES, TIME, VALUE, WEIGHT,
 };
 
 // ---------------------------------------------------------------------------------------------
@@ -49,13 +49,23 @@ impl From<Refusal> for Answer {
     }
 }
 
-/// A refusal that no line is the reason of.
-fn nowhere(number: u32) -> Refusal {
-    let (line, field) = (0, 0);
-    Refusal {
-        number,
-        line,
-        field,
+impl From<Reply> for Answer {
+    fn from(reply: Reply) -> Answer {
+        match reply {
+            Reply::Refused {
+                number,
+                line,
+                field,
+            } => Answer::from(Refusal {
+                number,
+                line,
+                field,
+            }),
+            Reply::Text(text) => Answer {
+                length: text.len(),
+                ..Answer::default()
+            },
+        }
     }
 }
 

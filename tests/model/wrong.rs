@@ -6,8 +6,8 @@
 //! one wrong rule at a time can be turned on, and pins.rs shows that some case then has another answer.
 
 use super::{
-    exits, judge, Action, Branch, Commitment, Condition, Contract, Event, Expression, Node, Part,
-    Reply, Row, Sheet,
+    exits, judge, Action, Branch, Commitment, Condition, Contract, Event, Expression, Made, Node,
+    Part, Place, Reply, Row, Sheet, ALL_ROWS, ROWS,
 };
 
 #[cfg(not(wrong_rules))]
@@ -233,6 +233,10 @@ mod switch {
         SetsMade "32 sets made"
         DepositsTaken "2,100,000,000,000,000 of all deposits taken"
         TableCells "52,072 cells of a table"
+        LentRows "512 places lent for rows"
+        LentAllRows "8,192 places lent for rows of `makeall`"
+        LentText "180,224 bytes lent for text"
+        PlacesEach "512 places for each participant of `makeall`"
     }
 
     /// These limits are those of a table too, and the cases of tables catch them.
@@ -289,6 +293,8 @@ mod switch {
         ExtraLineIsThree "a line too many gets 3"
         MoreLinesAllowed "lines after that of `make` are not read"
         EmptyLineAllowed "an empty line after that of `make` is no line"
+        MoreLinesAfterAll "lines after that of `makeall` are not read"
+        EmptyLineAfterAll "an empty line after that of `makeall` is no line"
         RangeIsSix "what is beyond its range gets 6"
         ThingIsFour "no such thing gets 4"
         EndsNotCounted "a field's comma or LF is not among the sheet's bytes"
@@ -328,6 +334,8 @@ mod switch {
         NumbersNotCounted "the numbers in a condition are no fields of it"
         ConstantFrom1 "a constant is 1 at least"
         // the last part
+        AllAsksAField "`makeall` has a participant after the word"
+        AllTakesAField "`makeall` may have a participant after the word"
         ValuesOfTheLast "`play` has a value for each secret of the last definition"
         ValueFrom1 "a value is 1 at least"
         NoXInRenewals "`renew` takes no `x`"
@@ -378,6 +386,19 @@ mod switch {
         NumberedByDefinition "nodes count anew in each definition"
         NumberedPartsFirst "nodes are numbered when they end"
         FrozenWithRows "`frozen` is printed after the rows there are"
+        // all parties
+        AllButTheLast "`makeall` answers for one participant too few"
+        AllAndOneMore "`makeall` answers for one participant too many"
+        AllSixteen "`makeall` answers for 16 participants whatever K is"
+        AllBackwards "`makeall` has the last participant first"
+        AllForTheFirst "`makeall` has participant 0's verdict under each name"
+        AllEndAtFrozen "`makeall` ends at the first `frozen`"
+        AllFrozenIfOne "`makeall` has every participant frozen where one is"
+        AllFrozenLeftOut "`makeall` leaves out who has `frozen`"
+        AllRowsCounted "`liquid` of `makeall` counts the rows of earlier participants too"
+        AllRowsFirst "`makeall` has all rows before the first last line"
+        AllVerdictsOnly "`makeall` prints no rows"
+        AllRowsOnly "`makeall` prints rows alone"
         // rows
         AllRowsAccepted "all rows are accepted"
         AllRowsDeclined "all rows are declined"
@@ -557,6 +578,32 @@ mod switch {
         RevealedNotAsked "the node of an `r`'s contract is not looked at"
         OtherWordsAreLt "a word of a condition above 4 is `lt`"
         OtherWordsAreSub "a word of an expression above 3 is `sub`"
+        // lent buffers
+        ShortBuffersFirst "short buffers come before 1"
+        ShortBuffersAfter "short buffers are told after reading"
+        FewPlacesFirst "too few places for `makeall` are told before reading"
+        FewPlacesByCount "`makeall` asks for 512 places for each of its participants"
+        FewPlacesTaken "`makeall` asks for 512 places"
+        FewPlacesForAnyWord "every word asks for 8,192 places"
+        FewPlacesAtTheWord "too few places are told at the word `makeall`"
+        PlacesFromTheFirst "each participant's rows stand from place 0 on"
+        PlacesBackwards "the last participant's rows stand first"
+        PlacesByParticipants "each participant has 8,192 / K places"
+        PlacesByNodes "each participant has as many places as there are nodes"
+        PlacesTogether "rows of `makeall` stand one behind the other"
+        FrozenWithoutPlaces "a participant with `frozen` has no places"
+        FrozenHoldsRows "a participant with `frozen` has the rows there are"
+        FrozenClearsAll "one `frozen` of `makeall` clears all places"
+        FrozenPlacesKept "places of a participant with `frozen` keep what they held"
+        PastRowsKept "places past a participant's rows keep what they held"
+        OtherPlacesKept "places past those of all participants keep what they held"
+        FarPlacesKept "places past 8,192 keep what they held"
+        RefusedRowsKept "after a refusal the rows keep what they held"
+        RefusedPlacesKept "after a refusal only 512 places are cleared"
+        ShortRowsKept "under 512 places keep what they held"
+        PastTextKept "bytes past the text keep what they held"
+        RefusedTextKept "after a refusal the text keeps what it held"
+        ShortTextKept "under 180,224 bytes keep what they held"
     }
 }
 
@@ -759,4 +806,117 @@ pub fn tell_in_every_set(sets: &mut [Vec<Commitment>], secret: usize) {
 pub fn rows_as_text(rows: impl Iterator<Item = Row>) -> String {
     let line = |row: Row| format!("row,{},{},{}\n", row.node, row.branch, row.rank);
     rows.map(line).collect()
+}
+
+// `makeall`.
+
+/// How many there are up to the first `frozen`.
+pub fn up_to_frozen(answers: &[Made]) -> usize {
+    let frozen = answers.iter().position(|(_, rows)| rows.is_empty());
+    frozen.map_or(answers.len(), |first| first + 1)
+}
+
+/// Every participant has the node of the first `frozen`.
+pub fn freeze_all(answers: &mut [Made]) {
+    let frozen = answers.iter().find(|(_, rows)| rows.is_empty());
+    let Some(node) = frozen.and_then(|(line, _)| line.rsplit(',').next().map(str::to_string))
+    else {
+        return;
+    };
+    for (participant, (lines, rows)) in answers.iter_mut().enumerate() {
+        *lines = format!("frozen,{participant},{node}");
+        rows.clear();
+    }
+}
+
+/// Participant 0's lines and rows, under the name of each.
+pub fn first_for_all(answers: &mut [Made]) {
+    let (first, rows) = answers[0].clone();
+    for (participant, answer) in answers.iter_mut().enumerate() {
+        let lines = first.replace("liquid,0,", &format!("liquid,{participant},"));
+        let lines = lines.replace("frozen,0,", &format!("frozen,{participant},"));
+        *answer = (lines, rows.clone());
+    }
+}
+
+/// Each `liquid` line counts the rows so far.
+pub fn count_so_far(answers: &mut [Made]) {
+    let mut count = 0;
+    for (participant, (lines, rows)) in answers.iter_mut().enumerate() {
+        count += rows.len();
+        let own = format!("liquid,{participant},{},", rows.len());
+        *lines = lines.replace(&own, &format!("liquid,{participant},{count},"));
+    }
+}
+
+/// The lines for which this holds.
+pub fn lines_with<'t>(
+    answers: impl Iterator<Item = &'t str>,
+    holds: impl Fn(&str) -> bool,
+) -> String {
+    let lines = answers.flat_map(|lines| lines.split_inclusive('\n'));
+    lines.filter(|line| holds(line)).collect()
+}
+
+/// All rows, and then all last lines.
+pub fn rows_first<'t>(answers: impl Iterator<Item = &'t str> + Clone) -> String {
+    let rows = lines_with(answers.clone(), |line| line.starts_with("row"));
+    rows + &lines_with(answers, |line| !line.starts_with("row"))
+}
+
+/// The rows of earlier participants.
+pub fn rows_before(answers: &[Made], participant: usize) -> usize {
+    let earlier = answers[..participant].iter();
+    earlier.map(|(_, rows)| rows.len()).sum()
+}
+
+/// The earlier participants that have rows.
+pub fn liquid_before(answers: &[Made], participant: usize) -> usize {
+    let earlier = answers[..participant].iter();
+    earlier.filter(|(_, rows)| !rows.is_empty()).count()
+}
+
+// Lent buffers.
+
+/// Is a line of the request `makeall`, and are there too few places for it?
+pub fn few_for_all(request: &[u8], places: usize) -> bool {
+    let mut lines = request.split(|byte| *byte == b'\n');
+    places < ALL_ROWS && lines.any(|line| line.starts_with(b"makeall"))
+}
+
+/// Every place but those that keep what they held.
+pub fn fill_but(rows: &mut [Place], held: &[Place], keeps: impl Fn(usize) -> bool) {
+    for (place, row) in rows.iter_mut().enumerate() {
+        if !keeps(place) {
+            *row = held.get(place).copied().unwrap_or_default();
+        }
+    }
+}
+
+/// Is there a row in this place?  A participant's first place has one if any has.
+fn is_row(held: &[Place], place: usize) -> bool {
+    held.get(place).is_some_and(|(_, _, rank)| *rank > 0)
+}
+
+/// The places past a participant's rows.
+pub fn past_rows(held: &[Place]) -> impl Fn(usize) -> bool + '_ {
+    |place| !is_row(held, place) && is_row(held, place / ROWS * ROWS)
+}
+
+/// How many verdicts a text has.
+fn verdicts(printed: &str) -> usize {
+    let is_verdict = |line: &&str| line.starts_with("liquid") || line.starts_with("frozen");
+    printed.lines().filter(is_verdict).count()
+}
+
+/// The places of participants with `frozen`.
+pub fn frozen_places<'h>(held: &'h [Place], printed: &str) -> impl Fn(usize) -> bool + 'h {
+    let verdicts = verdicts(printed);
+    move |place| place / ROWS < verdicts && !is_row(held, place / ROWS * ROWS)
+}
+
+/// The places of an answer past those of the participants that have a verdict.
+pub fn other_places(printed: &str) -> impl Fn(usize) -> bool {
+    let (answered, verdicts) = (!printed.is_empty(), verdicts(printed));
+    move |place| answered && place / ROWS >= verdicts
 }

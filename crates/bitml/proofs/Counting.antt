@@ -1,12 +1,12 @@
--- Laws of counting up, of what is kept, and of a store. Assumes nothing.
+-- Laws of counting up, of what is kept or gathered, and of a store. Assumes nothing.
 use mathlib.Core.Path.{_≡_, refl, sym, ap, ap₂, _∙_}
 use Prim.Native.Nat.{ℕ, zero, suc, _+_, _-_, _≤_, _<_}
 use native.Mathlib.Omega.{arith}
 use mathlib.Core.Bool.{Bool, true, false, cond, false≢true}
-use mathlib.Core.List.{List, [], _∷_, _++_, List·Memᴰ, List·Memᴰ·head, List·Memᴰ·tail}
+use mathlib.Core.List.{List, [], _∷_, _++_, append-nil, List·Memᴰ, List·Memᴰ·head, List·Memᴰ·tail}
 use lib.ListN.{length, getD, set}
-use Rattle.bitml.specs.Lists.{keep, All, upFrom}
-use Rattle.bitml.proofs.Lists.{all-head, all-tail}
+use Rattle.bitml.specs.Lists.{keep, gather, All, upFrom, below}
+use Rattle.bitml.proofs.Lists.{all-head, all-tail, gather-append}
 
 -- a store, at an index in range, and elsewhere
 pub at-store : {A : Type 0} (Q : A → Type 0) (xs : List A) (i j : ℕ) (y d : A) → i < length xs → ((j ≡ i → ⊥) → Q (getD xs j d)) → (j ≡ i → Q y) → Q (getD (set xs i y) j d)
@@ -78,3 +78,20 @@ up-one i n h = up-next i (n - i) (n - (i + 1)) (omega arith) ∙ ap (λ b. i ∷
 
 pub up-end : (i n : ℕ) → n ≤ i → upFrom i (n - i) ≡ []
 up-end i n h = let z : n - i ≡ 0 = omega arith in rw z
+
+-- ---- what is gathered for the numbers below n
+
+module _ {B : Type 0} (f : ℕ → List B) where
+  -- one number more
+  pub gather-up : (n : ℕ) → gather f (below (n + 1)) ≡ gather f (below n) ++ f n
+  gather-up n =
+      ap (gather f) (up-split 0 n 1) ∙ gather-append f (upFrom 0 n) (upFrom (0 + n) 1)
+      ∙ ap (λ ys. gather f (below n) ++ ys) (ap (λ k. f k ++ []) (let z : 0 + n ≡ n = omega arith in z) ∙ append-nil (f n))
+
+  -- what stands before number p, at it and behind it
+  pub gather-split : (p n : ℕ) → p < n → gather f (below n) ≡ gather f (below p) ++ (f p ++ gather f (upFrom (p + 1) (n - (p + 1))))
+  gather-split p n h =
+      let e : below n ≡ below p ++ upFrom (0 + p) (n - p) = ap below (let z : n ≡ p + (n - p) = omega arith in z) ∙ up-split 0 p (n - p) in
+      let g : upFrom (0 + p) (n - p) ≡ p ∷ upFrom (p + 1) (n - (p + 1)) =
+      up-more 0 p n h ∙ ap₂ (λ a b. a ∷ upFrom b (n - (p + 1))) (let z : 0 + p ≡ p = omega arith in z) (let z : 0 + (p + 1) ≡ p + 1 = omega arith in z) in
+      ap (gather f) e ∙ gather-append f (below p) (upFrom (0 + p) (n - p)) ∙ ap (λ ys. gather f (below p) ++ gather f ys) g

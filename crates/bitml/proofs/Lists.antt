@@ -1,14 +1,14 @@
 -- Laws of tests and lists. Assumes nothing.
 use mathlib.Core.Path.{_≡_, refl, sym, ap, ap₂, _∙_, subst}
 use mathlib.Core.Logic.{_⊎_, inl, inr, by-cases}
-use Prim.Native.Nat.{ℕ, zero, suc, _+_, _≤_, _<_}
+use Prim.Native.Nat.{ℕ, zero, suc, _+_, _*_, _≤_, _<_}
 use native.Mathlib.Omega.{arith}
 use native.Mathlib.Decide.{decLe}
 use native.Mathlib.Nat.{suc-ne-zero}
 use mathlib.Core.Bool.{Bool, true, false, not, false≢true, true≢false, cond}
-use mathlib.Core.List.{List, [], _∷_, _++_, map, List·Memᴰ, List·Memᴰ·head, List·Memᴰ·tail, nil≢cons, head-eq-of-cons-eq}
-use lib.ListN.{length, getD, set}
-use Rattle.bitml.specs.Lists.{_&_, _or_, _⇒_, ask, sum, every, any, keep, All, nil, cons, upFrom}
+use mathlib.Core.List.{List, [], _∷_, _++_, map, List·Memᴰ, List·Memᴰ·head, List·Memᴰ·tail, nil≢cons, head-eq-of-cons-eq, append-assoc}
+use lib.ListN.{length, getD, set, length-append}
+use Rattle.bitml.specs.Lists.{_&_, _or_, _⇒_, ask, sum, every, any, keep, gather, All, nil, cons, upFrom}
 
 -- a test that can't pass
 pub is-false : (b : Bool) → (b ≡ true → ⊥) → b ≡ false
@@ -298,6 +298,23 @@ module _ {A : Type 0} where
       go : (b : Bool) → All Q (keep t xs) → All Q (cond b (x ∷ keep t xs) (keep t xs))
       go true a = cons (all-head q) a
       go false a = a
+
+  pub gather-append : {B : Type 0} (f : A → List B) (xs ys : List A) → gather f (xs ++ ys) ≡ gather f xs ++ gather f ys
+  gather-append f [] ys = refl
+  gather-append f (x ∷ xs) ys = ap (λ zs. f x ++ zs) (gather-append f xs ys) ∙ sym (append-assoc (f x) (gather f xs) (gather f ys))
+
+  pub gather-cong : {B : Type 0} (f g : A → List B) (xs : List A) → ((x : A) → List·Memᴰ x xs → f x ≡ g x) → gather f xs ≡ gather g xs
+  gather-cong f g [] h = refl
+  gather-cong f g (x ∷ xs) h = ap₂ (λ ys zs. ys ++ zs) (h x (List·Memᴰ·head refl)) (gather-cong f g xs λ y m. h y (List·Memᴰ·tail m))
+
+  pub gather-map : {B C : Type 0} (f : B → List C) (g : A → B) (xs : List A) → gather f (map g xs) ≡ gather (λ x. f (g x)) xs
+  gather-map f g [] = refl
+  gather-map f g (x ∷ xs) = ap (λ zs. f (g x) ++ zs) (gather-map f g xs)
+
+  -- one length for each element
+  pub gather-length : {B : Type 0} (f : A → List B) (k : ℕ) (xs : List A) → All (λ x. length (f x) ≡ k) xs → length (gather f xs) ≡ k * length xs
+  gather-length f k [] h = omega arith
+  gather-length f k (x ∷ xs) h = omega (arith, length-append (f x) (gather f xs), all-head h, gather-length f k xs (all-tail h))
 
   pub mem-keep : (t : A → Bool) {y : A} (xs : List A) → List·Memᴰ y xs → t y ≡ true → List·Memᴰ y (keep t xs)
   mem-keep t {y} xs (List·Memᴰ·head {x = x} {xs = ys} p) e = let e′ : t x ≡ true = rw p at e in rw e′ (List·Memᴰ·head p)

@@ -1,20 +1,22 @@
 -- THE DEFINITION of what is answered to a request whose sheet, rows or events are known. Assumes nothing.
-use Prim.Native.Nat.{ℕ, zero, suc, _+_}
+use Prim.Native.Nat.{ℕ, zero, suc, _+_, _-_}
 use mathlib.Core.Bool.{cond}
 use mathlib.Core.Option.{Option}
 use mathlib.Core.List.{List, [], _∷_, _++_, map}
-use lib.ListN.{length}
+use lib.ListN.{length, replicate}
 use lib.Dec.{eqb}
-use Rattle.bitml.specs.Lists.{sum}
+use Rattle.bitml.specs.Lists.{sum, gather, below}
 use Rattle.bitml.specs.Sheet.{Sheet, defAt}
 use Rattle.bitml.specs.Rows.{Row, rankOf, Fault, check}
 use Rattle.bitml.specs.Rule.{Verdict, liquid, frozen, make}
 use Rattle.bitml.specs.Ledger.{Ledger, Event, stipulated}
 use Rattle.bitml.specs.Limits.{answers, limitedPlay}
 
--- "one last part: `make`,P; or `check`,P and .. lines `row` ..; or `play` with a value for each secret .. and event lines"
+-- "one last part: `make`,P; or `check`,P and .. lines `row` ..; or `play` with a value for each secret .. and event lines"; and
+-- "`makeall` takes no field after the word"
 pub data Request : Type 0 where
   making : Sheet → ℕ → Request
+  makingAll : Sheet → Request
   checking : Sheet → ℕ → List Row → Request
   playing : Sheet → List (Option ℕ) → List Event → Request
 
@@ -36,9 +38,32 @@ unfoldable pub liquidBy : Sheet → ℕ → List Row → Line
 liquidBy s p R = liquidLine p (length R) (rankOf R (defAt s 0 .root))
 
 -- `make`: the rows and the `liquid` line; "`frozen` has participant, node, and is printed without rows"
+unfoldable pub madeLines : Sheet → ℕ → Verdict → List Line
+madeLines s p (liquid R) = map rowLine R ++ (liquidBy s p R ∷ [])
+madeLines s p (frozen n) = frozenLine p n ∷ []
+
+unfoldable pub madeRows : Verdict → List Row
+madeRows (liquid R) = R
+madeRows (frozen n) = []
+
 unfoldable pub madeBy : Sheet → ℕ → Verdict → Answer
-madeBy s p (liquid R) = printed (map rowLine R ++ (liquidBy s p R ∷ [])) R
-madeBy s p (frozen n) = printed (frozenLine p n ∷ []) []
+madeBy s p v = printed (madeLines s p v) (madeRows v)
+
+-- "8,192 places for rows, those of participant p from 512 × p, with zeros past that participant's rows": the 512 places of one
+abbrev pub placesOfOne : ℕ
+placesOfOne = 512
+
+abbrev pub noRow : Row
+noRow = record { node = 0; branch = 0; rank = 0 }
+
+unfoldable pub padded : List Row → List Row
+padded R = R ++ replicate (placesOfOne - length R) noRow
+
+-- `makeall`: "It answers for participants 0 to K − 1 in that order, each with the rows and final line that `make` gives for that
+-- participant"
+unfoldable pub madeForAll : Sheet → Answer
+madeForAll s =
+    printed (gather (λ p. madeLines s p (make s p)) (below (s .participants))) (gather (λ p. padded (madeRows (make s p))) (below (s .participants)))
 
 -- "`check` prints the `liquid` line or a refusal", at the line of its row; the line of `check` is the one behind the `def` lines
 unfoldable pub checkedBy : Sheet → ℕ → List Row → Fault → Answer
@@ -64,5 +89,6 @@ playLines s l k es = eventLines k (answers s l es) ++ (endOf (limitedPlay s l es
 -- The first event stands two lines behind the `def` lines. "it is wholly zero after `play`": no rows
 unfoldable pub answer : Request → Answer
 answer (making s p) = madeBy s p (make s p)
+answer (makingAll s) = madeForAll s
 answer (checking s p R) = checkedBy s p R (check s p R)
 answer (playing s vs es) = printed (playLines s (stipulated s vs) (length (s .defs) + 3) es) []

@@ -1,7 +1,7 @@
 -- Tests and lists: the few words that the other modules are written in. Assumes nothing.
 use Prim.Native.Nat.{ℕ, zero, suc, _+_}
 use mathlib.Core.Bool.{Bool, true, false, cond}
-use mathlib.Core.List.{List, [], _∷_}
+use mathlib.Core.List.{List, [], _∷_, _++_}
 
 infixr 35 _&_
 infixr 30 _or_
@@ -42,6 +42,11 @@ module _ {A : Type 0} where
   abbrev pub keep : (A → Bool) → List A → List A
   keep t [] = []
   keep t (x ∷ xs) = cond (t x) (x ∷ keep t xs) (keep t xs)
+
+  -- The lists that a function gives for the elements, one behind the other
+  abbrev pub gather : {B : Type 0} → (A → List B) → List A → List B
+  gather f [] = []
+  gather f (x ∷ xs) = f x ++ gather f xs
 
   -- A fact about every element
   pub data All (Q : A → Type 0) : List A → Type 0 where

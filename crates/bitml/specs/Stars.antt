@@ -4,12 +4,13 @@ use Prim.Native.Nat.{ℕ}
 use mathlib.Core.Option.{none}
 use mathlib.Core.Option.{some as the}
 use mathlib.Core.List.{List, [], _∷_, _++_, map}
+use lib.ListN.{replicate}
 use Rattle.bitml.specs.Lists.{All}
 use Rattle.bitml.specs.Sheet.{Sheet, Node, Branch, Action, withdraw, split, reveal, renewAs, always}
 use Rattle.bitml.specs.Rows.{Row}
 use Rattle.bitml.specs.Ledger.{wait, sign, tell, fire, renew}
 use Rattle.bitml.specs.Promises.{WellFormed}
-use Rattle.bitml.specs.Answers.{Request, making, checking, playing, Line, rowLine, liquidLine, frozenLine, refusedLine, takenLine, endLine, Answer, refused, printed, answer}
+use Rattle.bitml.specs.Answers.{Request, making, makingAll, checking, playing, Line, rowLine, liquidLine, frozenLine, refusedLine, takenLine, endLine, Answer, refused, printed, answer}
 
 -- ---- the sheets, with K = 2 and one definition
 
@@ -75,9 +76,17 @@ cases =
     -- ★6 and ★7
     ∷ (making M 0, printed (frozenLine 0 1 ∷ []) [])
     ∷ (making M 1, listed (row 0 1 1 ∷ row 1 0 4 ∷ row 2 0 3 ∷ row 3 0 1 ∷ row 4 0 1 ∷ []) (liquidLine 1 5 1))
+    -- and for both: participant 1 has the places from 512 on
+    ∷ (
+      makingAll M,
+      printed
+          (frozenLine 0 1 ∷ rowLine (row 0 1 1) ∷ rowLine (row 1 0 4) ∷ rowLine (row 2 0 3) ∷ rowLine (row 3 0 1) ∷ rowLine (row 4 0 1) ∷ liquidLine 1 5 1 ∷ [])
+          (replicate 512 (row 0 0 0) ++ (row 0 1 1 ∷ row 1 0 4 ∷ row 2 0 3 ∷ row 3 0 1 ∷ row 4 0 1 ∷ []) ++ replicate 507 (row 0 0 0)),
+    )
     -- ★8, for both
     ∷ (making D 0, printed (frozenLine 0 0 ∷ []) [])
     ∷ (making D 1, printed (frozenLine 1 0 ∷ []) [])
+    ∷ (makingAll D, printed (frozenLine 0 0 ∷ frozenLine 1 0 ∷ []) (replicate 1024 (row 0 0 0)))
     -- ★9
     ∷ (making R 0, listed (row 0 2 1 ∷ row 1 0 1 ∷ []) (liquidLine 0 2 1))
     -- ★10

@@ -30,12 +30,13 @@ use Rattle.bitml.specs.Rule as rule
 use Rattle.texts.specs.Text as text
 use Rattle.plays.specs.Values as values
 use Rattle.plays.specs.Events as played-events
-use Rattle.checker.specs.Entry.{answerFor, judged, early, answerTo, refusedIn, textIn}
+use Rattle.checker.specs.Entry.{answerForAll, answerFor, judged, early, answerTo, refusedIn, textIn}
 use Rattle.cases.specs.Cases.Case.{Case, printedFor, copies, byte, T, M, D, R, N, W, tie}
 use Rattle.cases.specs.Cases.Tried as tried-cases
 use Rattle.cases.specs.Cases.Sheet as sheet-cases
 use Rattle.cases.specs.Cases.Conditions as conditions-cases
 use Rattle.cases.specs.Cases.LastPart as last-part-cases
+use Rattle.cases.specs.Cases.Parties as parties-cases
 use Rattle.cases.specs.Cases.Runs as runs-cases
 use Rattle.cases.specs.Cases.Rows as rows-cases
 use Rattle.cases.specs.Cases.Ledger as ledger-cases
@@ -65,7 +66,7 @@ allPass test (c ∷ cs) = test c & allPass test cs
 
 -- the test with all that it takes to compute it: whoever opens this opens these
 unfoldable pub passed : List Case → Bool
-unfolding allPass printTest laidOut sameText copies byte T M D R N W tie printedFor textIn refusedIn answerTo early judged answerFor
+unfolding allPass printTest laidOut sameText copies byte T M D R N W tie printedFor textIn refusedIn answerTo early judged answerForAll answerFor
     field.fieldLen field.textAt field.endAt field.allDigits field.digitsOn field.digitsOf field.numberOf field.numberAt field.packed field.packedOf field.wordFrom field.wordAt field.firstAt field.lineEndAt field.whenRead field.belowAt field.betweenAt
     places.stepOf places.walk places.placeOf places.markOf places.lastFrom places.passingOf
     tables.branchNumbers tables.partNumbers tables.pickE tables.readE tables.pickC tables.readC tables.condAt tables.actionOf tables.branchOf tables.nodeOf tables.defOf tables.sheetOf
@@ -77,11 +78,11 @@ unfolding allPass printTest laidOut sameText copies byte T M D R N W tie printed
     definitions.depositsAt definitions.ownerAt definitions.rootAt definitions.ownedAt definitions.defineAt
     line-one.countsAt line-one.lineOneAt
     sheet.beyond sheet.limited sheet.accept sheet.sheetFrom sheet.readSheet
-    part.valueAt part.pastOf part.pastValueAt part.pastValuesAt part.participantAt part.makeAt part.checkAt part.playAt part.lastPartAt
+    part.valueAt part.pastOf part.pastValueAt part.pastValuesAt part.participantAt part.makeAt part.makeAllAt part.checkAt part.playAt part.lastPartAt
     row-lines.rowNumbersAt row-lines.rowAt row-lines.noRoomAt row-lines.withLine row-lines.rowsFrom row-lines.rowsAt
     events.pairAt events.afterPair events.lastPairAt events.waitAt events.signAt events.tellAt events.fireAt events.valuesFrom events.valuesAt events.renewAt events.eventAt events.nextOf events.eventsFrom events.eventsAt
     request.refusedAt request.fromRows request.fromLines request.fromPart request.fromSheet request.readRequest
-    answers.liquidBy answers.madeBy answers.checkedBy answers.eventLine answers.eventLines answers.endOf answers.playLines answers.answer ledger.refusal ledger.after ledger.stipulated limits.depositsTaken limits.within limits.limitedRefusal limits.limitedStep limits.answers limits.limitedPlay values.valueOf values.behind values.valuesOf played-events.eventOf played-events.eventsUpTo played-events.eventsOf
+    answers.liquidBy answers.madeLines answers.madeRows answers.madeBy answers.padded answers.madeForAll answers.checkedBy answers.eventLine answers.eventLines answers.endOf answers.playLines answers.answer ledger.refusal ledger.after ledger.stipulated limits.depositsTaken limits.within limits.limitedRefusal limits.limitedStep limits.answers limits.limitedPlay values.valueOf values.behind values.valuesOf played-events.eventOf played-events.eventsUpTo played-events.eventsOf
     _&_ _or_ _⇒_ ask
     rows.repeated rows.rowFault rows.faulty rows.check
     rule.costOf rule.cost rule.better rule.choose rule.choices rule.choiceAt rule.round rule.rounds rule.reached rule.rowFor rule.rows rule.stuck rule.make
@@ -133,6 +134,10 @@ pub last-part-hold : passed last-part-cases.cases ≡ true
 unfolding passed last-part-cases.cases
 last-part-hold = refl
 
+pub parties-hold : passed parties-cases.cases ≡ true
+unfolding passed parties-cases.cases
+parties-hold = refl
+
 pub runs-hold : passed runs-cases.cases ≡ true
 unfolding passed runs-cases.owners runs-cases.cases
 runs-hold = refl
@@ -156,10 +161,11 @@ declined-hold = refl
 pub cases-hold : Cases
 unfolding Cases cases
 cases-hold =
-    all-append (all-append (all-append (all-append (all-append (all-append (all-append (all-append (by-test _ tried-hold)
+    all-append (all-append (all-append (all-append (all-append (all-append (all-append (all-append (all-append (by-test _ tried-hold)
     (by-test _ sheet-hold))
     (by-test _ conditions-hold))
     (by-test _ last-part-hold))
+    (by-test _ parties-hold))
     (by-test _ runs-hold))
     (by-test _ rows-hold))
     (by-test _ ledger-hold))

@@ -1,13 +1,14 @@
 -- Cases for what the program does not print: the value that is handed back, buffers that are too short, and the row buffer. Assumes nothing.
 use mathlib.Core.Path.{_≡_}
-use Prim.Native.Nat.{ℕ}
+use Prim.Native.Nat.{ℕ, _*_}
 use mathlib.Core.List.{List, [], _∷_, _++_}
+use lib.ListN.{take, drop}
 use Rattle.bitml.specs.Lists.{All}
 use Rattle.texts.specs.Text.{letters}
 use Rattle.replies.specs.declared.Reply.{Reply}
 use Rattle.replies.specs.Answer.{replyOf, numbersOf}
 use Rattle.checker.specs.Entry.{answerTo}
-use Rattle.cases.specs.Cases.Case.{T, D, W, copies}
+use Rattle.cases.specs.Cases.Case.{T, M, D, W, copies}
 
 -- A request, places for so many rows, so many bytes of text; and what comes back
 abbrev pub Case : Type 0
@@ -40,8 +41,39 @@ cases =
     ∷ ([], 511, 180224, 7 ∷ 0 ∷ 0 ∷ 0 ∷ 0 ∷ 0 ∷ 0 ∷ 0 ∷ 0 ∷ 0 ∷ 0 ∷ 0 ∷ 0 ∷ [])
     ∷ (copies 65537 (letters "x"), 511, 180223, 1 ∷ 0 ∷ 0 ∷ 0 ∷ 0 ∷ 0 ∷ 0 ∷ 0 ∷ 0 ∷ 0 ∷ 0 ∷ 0 ∷ 0 ∷ [])
     ∷ (copies 65536 (letters "x"), 511, 180224, 7 ∷ 0 ∷ 0 ∷ 0 ∷ 0 ∷ 0 ∷ 0 ∷ 0 ∷ 0 ∷ 0 ∷ 0 ∷ 0 ∷ 0 ∷ [])
+    -- `makeall`: "Fewer places get 7 at line 0, field 0, looked at after reading has found nothing bad; fewer than 512 get it first"
+    ∷ (W ++ letters "makeall\n", 8191, 180224, 7 ∷ 0 ∷ 0 ∷ 0 ∷ 0 ∷ 0 ∷ 0 ∷ 0 ∷ 0 ∷ 0 ∷ 0 ∷ 0 ∷ 0 ∷ [])
+    ∷ (W ++ letters "makeall\n", 512, 180224, 7 ∷ 0 ∷ 0 ∷ 0 ∷ 0 ∷ 0 ∷ 0 ∷ 0 ∷ 0 ∷ 0 ∷ 0 ∷ 0 ∷ 0 ∷ [])
+    ∷ (W ++ letters "makeall,\n", 8191, 180224, 9 ∷ 3 ∷ 2 ∷ 0 ∷ 0 ∷ 0 ∷ 0 ∷ 0 ∷ 0 ∷ 0 ∷ 0 ∷ 0 ∷ 0 ∷ [])
+    ∷ (W ++ letters "makeall,\n", 511, 180224, 7 ∷ 0 ∷ 0 ∷ 0 ∷ 0 ∷ 0 ∷ 0 ∷ 0 ∷ 0 ∷ 0 ∷ 0 ∷ 0 ∷ 0 ∷ [])
+    -- and no other word asks for so many
+    ∷ (W ++ letters "make,0\n", 8191, 180224, 0 ∷ 0 ∷ 0 ∷ 23 ∷ 0 ∷ 0 ∷ 1 ∷ 0 ∷ 0 ∷ 0 ∷ 0 ∷ 0 ∷ 0 ∷ [])
+    ∷ []
+
+-- ---- `makeall`, with 8,192 places
+
+-- A request and the number of a place; and what that place and the one behind it hold
+abbrev pub PlaceCase : Type 0
+PlaceCase = List ℕ × ℕ × List ℕ
+
+unfoldable pub heldFrom : List ℕ → ℕ → List ℕ
+heldFrom s i = take 6 (drop (3 * i) (numbersOf 24576 (answerTo s 8192 180224)))
+
+unfoldable pub places : List PlaceCase
+places =
+    -- "those of participant p from 512 × p, with zeros past that participant's rows"
+    (T ++ letters "makeall\n", 0, 0 ∷ 1 ∷ 1 ∷ 1 ∷ 0 ∷ 1 ∷ [])
+    ∷ (T ++ letters "makeall\n", 1, 1 ∷ 0 ∷ 1 ∷ 0 ∷ 0 ∷ 0 ∷ [])
+    ∷ (T ++ letters "makeall\n", 511, 0 ∷ 0 ∷ 0 ∷ 0 ∷ 1 ∷ 1 ∷ [])
+    ∷ (T ++ letters "makeall\n", 513, 1 ∷ 0 ∷ 1 ∷ 0 ∷ 0 ∷ 0 ∷ [])
+    -- nothing behind those of the last
+    ∷ (T ++ letters "makeall\n", 1023, 0 ∷ 0 ∷ 0 ∷ 0 ∷ 0 ∷ 0 ∷ [])
+    -- "and all zeros for one with `frozen`"
+    ∷ (M ++ letters "makeall\n", 0, 0 ∷ 0 ∷ 0 ∷ 0 ∷ 0 ∷ 0 ∷ [])
+    ∷ (M ++ letters "makeall\n", 513, 1 ∷ 0 ∷ 4 ∷ 2 ∷ 0 ∷ 3 ∷ [])
     ∷ []
 
 -- THE PROPOSITION: from each call of the list comes back what is due
-unfoldable pub Buffers : Type 0
-Buffers = All (λ (c : Case). comesBack (c .0) (c .1) (c .2) ≡ c .3) cases
+pub record Buffers : Type 0 where
+  pub calls : All (λ (c : Case). comesBack (c .0) (c .1) (c .2) ≡ c .3) cases
+  pub held : All (λ (c : PlaceCase). heldFrom (c .0) (c .1) ≡ c .2) places

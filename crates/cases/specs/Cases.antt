@@ -4,6 +4,7 @@ pub mod Tried
 pub mod Sheet
 pub mod Conditions
 pub mod LastPart
+pub mod Parties
 pub mod Runs
 pub mod Rows
 pub mod Ledger
@@ -17,6 +18,7 @@ use Rattle.cases.specs.Cases.Tried as tried
 use Rattle.cases.specs.Cases.Sheet as sheet
 use Rattle.cases.specs.Cases.Conditions as conditions
 use Rattle.cases.specs.Cases.LastPart as last-part
+use Rattle.cases.specs.Cases.Parties as parties
 use Rattle.cases.specs.Cases.Runs as runs
 use Rattle.cases.specs.Cases.Rows as rows
 use Rattle.cases.specs.Cases.Ledger as ledger
@@ -25,7 +27,7 @@ use Rattle.cases.specs.Cases.Declined as declined
 
 unfoldable pub cases : List form.Case
 cases =
-    tried.cases ++ sheet.cases ++ conditions.cases ++ last-part.cases ++ runs.cases ++ rows.cases ++ ledger.cases ++ limits.cases ++ declined.cases
+    tried.cases ++ sheet.cases ++ conditions.cases ++ last-part.cases ++ parties.cases ++ runs.cases ++ rows.cases ++ ledger.cases ++ limits.cases ++ declined.cases
 
 -- THE PROPOSITION: for each request of the list its text is printed
 unfoldable pub Cases : Type 0

@@ -14,7 +14,7 @@ use Rattle.bitml.specs.Promises.{WellFormed}
 use Rattle.bitml.specs.Rows as rows
 use Rattle.bitml.specs.Rows.{Row, Accepted}
 use Rattle.bitml.specs.Liquidity.{Liquidity}
-use Rattle.bitml.specs.Answers.{making, checking, refused, madeBy, checkedBy, answer}
+use Rattle.bitml.specs.Answers.{making, checking, refused, madeLines, madeRows, madeBy, checkedBy, answer}
 use Rattle.bitml.proofs.Demands.{demands}
 use Rattle.tables.specs.Entries.{Entries}
 use Rattle.tables.specs.SheetOf.{sheetOf}
@@ -34,7 +34,7 @@ module _ (S : Sheet) (wf : WellFormed S) (p : ℕ) where
   leaves R ok = demands .liquidity S wf p R ok
 
   made : MadeRows S p (answer (making S p)) ⊎ MadeFrozen S p (answer (making S p))
-  unfolding answer madeBy
+  unfolding answer madeLines madeRows madeBy
   made = ⊎-elim
       (λ v.
       let ok = demands .check-is-accepted S p _ .0 (demands .published S wf p (v .1) .1) in
@@ -61,15 +61,15 @@ module _ (S : Sheet) (wf : WellFormed S) (p : ℕ) where
 -- ---- from the bytes on
 
 -- where neither 1 nor a short buffer comes first, what is read is answered
-pub answer-room : (s : List ℕ) (places text : ℕ) → Room s places text → answerTo s places text ≡ judged s (readRequest s)
+pub answer-room : (s : List ℕ) (places text : ℕ) → Room s places text → answerTo s places text ≡ judged s places (readRequest s)
 unfolding answerTo
 answer-room s places text r =
-    ap (λ n. cond (eqb n 0) (judged s (readRequest s)) (refused n 0 0)) (sym (early-none (length s) places text (r .bytes) (r .enough-places) (r .enough-text)))
+    ap (λ n. cond (eqb n 0) (judged s places (readRequest s)) (refused n 0 0)) (sym (early-none (length s) places text (r .bytes) (r .enough-places) (r .enough-text)))
 
 -- a request that is read whole is answered by its last part
-pub answer-read : (s : List ℕ) (places text : ℕ) → Room s places text → (K : ℕ) (E : Entries) (l : LastPart) → readRequest s ≡ request K E l → answerTo s places text ≡ answerFor s K E l
+pub answer-read : (s : List ℕ) (places text : ℕ) → Room s places text → (K : ℕ) (E : Entries) (l : LastPart) → readRequest s ≡ request K E l → answerTo s places text ≡ answerFor s places K E l
 unfolding judged
-answer-read s places text room K E l e = answer-room s places text room ∙ ap (judged s) e
+answer-read s places text room K E l e = answer-room s places text room ∙ ap (judged s places) e
 
 pub formed : (s : List ℕ) (K : ℕ) (E : Entries) (l : LastPart) → readRequest s ≡ request K E l → WellFormed (sheetOf K E)
 unfolding PromisedWhole

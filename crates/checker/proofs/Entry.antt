@@ -10,8 +10,9 @@ use borrow.Author.Tests.{eqb-true, eq-eqb, ne-eqb, le-leb, lt-leb}
 use mathlib.Core.Logic.{by-cases}
 use native.Mathlib.Decide.{decLe}
 use Rattle.bitml.specs.Lists.{_&_, ask}
+use Rattle.bitml.specs.Sheet.{Sheet}
 use Rattle.bitml.specs.Rows as bitml
-use Rattle.bitml.specs.Answers.{making, checking, playing, Answer, refused, printed, answer}
+use Rattle.bitml.specs.Answers.{making, makingAll, checking, playing, Answer, refused, printed, answer}
 use Rattle.tables.specs.Entries.{held, people, tableLong}
 use Rattle.tables.specs.SheetOf.{sheetIn, nodeEntryAt, defEntryAt}
 use Rattle.tables.proofs.Laws.{firstOf-getD}
@@ -20,7 +21,7 @@ use Rattle.requests.specs.Rows.{RowFits, countIn, row, rowIn, rowsOf}
 use Rattle.requests.proofs.Laws.{rows-length}
 use Rattle.reader.specs.declared.Request.{Request}
 use Rattle.reader.specs.declared.Request.the-variants as code
-use Rattle.reader.specs.Request.{readRequest, answered, make, check, play}
+use Rattle.reader.specs.Request.{readRequest, answered, make, makeAll, check, play}
 use Rattle.promises.specs.Parts.{PlayPromise, PartPromise}
 use Rattle.promises.specs.Texts.{PromisedWhole}
 use Rattle.promises.proofs.Whole.{promised-whole}
@@ -34,7 +35,8 @@ use Rattle.lent.proofs.Structs.{structs-filled, structs-cleared}
 use Rattle.replies.specs.Answer.{numbersOf, Gives, leastText}
 use Rattle.plays.specs.Values.{valuesOf}
 use Rattle.plays.specs.Events.{eventsOf}
-use Rattle.checker.specs.Entry.{answerFor, judged, early, answerTo, placesOf}
+use Rattle.checker.specs.Entry.{placesOfAll, answerForAll, answerFor, judged, early, answerTo, placesOf}
+use Rattle.checker.specs.Lending.{numbersOfAll, Wide}
 
 -- ---- what is known of the table t and the row buffer u after reading
 
@@ -73,24 +75,36 @@ module _ (s t u : List ℕ) (x : Request) (read : answered x t u ≡ readRequest
       let k = promised-whole s (people t) (held t) (play v e) (sym (ap (λ y. answered y t u) (sym h) ∙ read)) in
       (record { long = long; promises = k .0 }, k .1)
 
-  -- the answer, by what was read
-  module _ {n m : ℕ} {r : Reply} {v b : List ℕ} where
-    pub judged-make : (p : ℕ) → x ≡ code.Make p → Gives (answer (making (sheetIn t) p)) n m r v b → Gives (judged s (readRequest s)) n m r v b
-    unfolding answered judged answerFor
-    judged-make p e g = subst (λ w. Gives (judged s w) n m r v b) (ap (λ y. answered y t u) (sym e) ∙ read) g
+  pub ready-all : x ≡ code.MakeAll → tableLong ≤ length t → Ready t × ((rows n : ℕ) → Wide s rows n → placesOfAll ≤ rows → numbersOfAll ≤ n)
+  unfolding answered PromisedWhole Wide
+  ready-all e long =
+      let q = sym (ap (λ y. answered y t u) (sym e) ∙ read) in (
+        record { long = long; promises = promised-whole s (people t) (held t) makeAll q .0 },
+        λ rows n w. w (people t) (held t) q,
+      )
 
-    pub judged-check : (p k : ℕ) → x ≡ code.Check p k → Gives (answer (checking (sheetIn t) p (rowsOf k u))) n m r v b → Gives (judged s (readRequest s)) n m r v b
+  -- the answer, by what was read
+  module _ (rows : ℕ) {n m : ℕ} {r : Reply} {v b : List ℕ} where
+    pub judged-make : (p : ℕ) → x ≡ code.Make p → Gives (answer (making (sheetIn t) p)) n m r v b → Gives (judged s rows (readRequest s)) n m r v b
     unfolding answered judged answerFor
-    judged-check p k e g = subst (λ w. Gives (judged s w) n m r v b) (ap (λ y. answered y t u) (sym e) ∙ read) g
+    judged-make p e g = subst (λ w. Gives (judged s rows w) n m r v b) (ap (λ y. answered y t u) (sym e) ∙ read) g
+
+    pub judged-all : x ≡ code.MakeAll → Gives (answerForAll rows (sheetIn t)) n m r v b → Gives (judged s rows (readRequest s)) n m r v b
+    unfolding answered judged answerFor
+    judged-all e g = subst (λ w. Gives (judged s rows w) n m r v b) (ap (λ y. answered y t u) (sym e) ∙ read) g
+
+    pub judged-check : (p k : ℕ) → x ≡ code.Check p k → Gives (answer (checking (sheetIn t) p (rowsOf k u))) n m r v b → Gives (judged s rows (readRequest s)) n m r v b
+    unfolding answered judged answerFor
+    judged-check p k e g = subst (λ w. Gives (judged s rows w) n m r v b) (ap (λ y. answered y t u) (sym e) ∙ read) g
 
     pub judged-play : (w e : ℕ) → x ≡ code.Play w e
-        → Gives (answer (playing (sheetIn t) (valuesOf s w (defEntryAt (held t) 0 .secrets)) (eventsOf s (people t) e))) n m r v b → Gives (judged s (readRequest s)) n m r v b
+        → Gives (answer (playing (sheetIn t) (valuesOf s w (defEntryAt (held t) 0 .secrets)) (eventsOf s (people t) e))) n m r v b → Gives (judged s rows (readRequest s)) n m r v b
     unfolding answered judged answerFor
-    judged-play w e h g = subst (λ y. Gives (judged s y) n m r v b) (ap (λ y. answered y t u) (sym h) ∙ read) g
+    judged-play w e h g = subst (λ y. Gives (judged s rows y) n m r v b) (ap (λ y. answered y t u) (sym h) ∙ read) g
 
-    pub judged-refused : (i l f : ℕ) → x ≡ code.Refused i l f → Gives (refused i l f) n m r v b → Gives (judged s (readRequest s)) n m r v b
+    pub judged-refused : (i l f : ℕ) → x ≡ code.Refused i l f → Gives (refused i l f) n m r v b → Gives (judged s rows (readRequest s)) n m r v b
     unfolding answered judged
-    judged-refused i l f e g = subst (λ w. Gives (judged s w) n m r v b) (ap (λ y. answered y t u) (sym e) ∙ read) g
+    judged-refused i l f e g = subst (λ w. Gives (judged s rows w) n m r v b) (ap (λ y. answered y t u) (sym e) ∙ read) g
 
 -- ---- before reading
 
@@ -117,26 +131,44 @@ module _ (s : List ℕ) (rows n m : ℕ) (r : Reply) (u b : List ℕ) where
   unfolding answerTo
   answer-early k e f g =
       subst (λ a. Gives a n m r u b)
-      (ap (λ i. refused i 0 0) e ∙ sym (ap (λ x. cond x (judged s (readRequest s)) (refused (early (length s) rows m) 0 0)) (ap (λ i. eqb i 0) (sym e) ∙ ne-eqb k 0 f)))
+      (ap (λ i. refused i 0 0) e ∙ sym (ap (λ x. cond x (judged s rows (readRequest s)) (refused (early (length s) rows m) 0 0)) (ap (λ i. eqb i 0) (sym e) ∙ ne-eqb k 0 f)))
       g
 
-  pub answer-judged : (k : ℕ) → k ≡ early (length s) rows m → k ≡ 0 → Gives (judged s (readRequest s)) n m r u b → Gives (answerTo s rows m) n m r u b
+  pub answer-judged : (k : ℕ) → k ≡ early (length s) rows m → k ≡ 0 → Gives (judged s rows (readRequest s)) n m r u b → Gives (answerTo s rows m) n m r u b
   unfolding answerTo
   answer-judged k e f g =
       subst (λ a. Gives a n m r u b)
-      (sym (ap (λ x. cond x (judged s (readRequest s)) (refused (early (length s) rows m) 0 0)) (ap (λ i. eqb i 0) (sym e) ∙ eq-eqb k 0 f)))
+      (sym (ap (λ x. cond x (judged s rows (readRequest s)) (refused (early (length s) rows m) 0 0)) (ap (λ i. eqb i 0) (sym e) ∙ eq-eqb k 0 f)))
       g
 
--- ---- the rows of an answer, from 1,536 numbers
+-- ---- makeall
+
+module _ (rows : ℕ) (S : Sheet) where
+  pub all-few : rows < placesOfAll → refused 7 0 0 ≡ answerForAll rows S
+  unfolding answerForAll
+  all-few h = rw (lt-leb placesOfAll rows h)
+
+  pub all-enough : placesOfAll ≤ rows → answer (makingAll S) ≡ answerForAll rows S
+  unfolding answerForAll
+  all-enough h = rw (le-leb placesOfAll rows h)
+
+  module _ {n m : ℕ} {r : Reply} {u b : List ℕ} where
+    pub few-gives : rows < placesOfAll → Gives (refused 7 0 0) n m r u b → Gives (answerForAll rows S) n m r u b
+    few-gives h g = subst (λ a. Gives a n m r u b) (all-few h) g
+
+    pub all-gives : placesOfAll ≤ rows → Gives (answer (makingAll S)) n m r u b → Gives (answerForAll rows S) n m r u b
+    all-gives h g = subst (λ a. Gives a n m r u b) (all-enough h) g
+
+-- ---- the rows of an answer, from L numbers
 
 filled-few : (L : ℕ) (R : List bitml.Row) → length (filled L R) ≡ L → 3 * length R ≤ L
 unfolding filled
 filled-few L R e = omega (arith, e, flat-length R, length-append (flat R) (replicate (L - 3 * length R) 0))
 
-places : (a : Answer) (n L : ℕ) → L ≡ 1536 → 512 ≤ n → length (numbersOf L a) ≡ L → structs n (numbersOf L a) ≡ placesOf n a
+places : (a : Answer) (n L : ℕ) → L ≤ 3 * n → length (numbersOf L a) ≡ L → structs n (numbersOf L a) ≡ placesOf n a
 unfolding numbersOf placesOf
-places (refused i l f) n L e h k = structs-cleared n L
-places (printed ls R) n L e h k = structs-filled n L R (omega (arith, filled-few L R k))
+places (refused i l f) n L h k = structs-cleared n L
+places (printed ls R) n L h k = structs-filled n L R (omega (arith, filled-few L R k))
 
 -- fewer than 512 places are refused
 early-few : (bytes rows text : ℕ) → early bytes rows text ≡ 0 → 512 ≤ rows
@@ -144,11 +176,11 @@ early-few bytes rows text e =
     by-cases (decLe 512 rows) (λ h. h)
     (λ h. by-cases (decLe bytes 65536) (λ k. absurd (omega (arith, early-rows bytes rows text k (omega arith), e))) (λ k. absurd (omega (arith, early-long bytes rows text (omega arith), e))))
 
-pub places-are : (s : List ℕ) (n m : ℕ) (xs : List ℕ) (L : ℕ) → L ≡ 1536 → xs ≡ numbersOf L (answerTo s n m) → length xs ≡ L → structs n xs ≡ placesOf n (answerTo s n m)
+pub places-are : (s : List ℕ) (n m : ℕ) (xs : List ℕ) (L : ℕ) → (512 ≤ n → L ≤ 3 * n) → xs ≡ numbersOf L (answerTo s n m) → length xs ≡ L → structs n xs ≡ placesOf n (answerTo s n m)
 unfolding answerTo numbersOf placesOf
 places-are s n m xs L w e k = ap (structs n) e ∙ go (eqb (early (length s) n m) 0) refl (ap (λ us. length us) (sym e) ∙ k)
   where
-    go : (x : Bool) → eqb (early (length s) n m) 0 ≡ x → length (numbersOf L (cond x (judged s (readRequest s)) (refused (early (length s) n m) 0 0))) ≡ L
-        → structs n (numbersOf L (cond x (judged s (readRequest s)) (refused (early (length s) n m) 0 0))) ≡ placesOf n (cond x (judged s (readRequest s)) (refused (early (length s) n m) 0 0))
-    go true q k = places (judged s (readRequest s)) n L w (early-few (length s) n m (eqb-true (early (length s) n m) 0 q)) k
+    go : (x : Bool) → eqb (early (length s) n m) 0 ≡ x → length (numbersOf L (cond x (judged s n (readRequest s)) (refused (early (length s) n m) 0 0))) ≡ L
+        → structs n (numbersOf L (cond x (judged s n (readRequest s)) (refused (early (length s) n m) 0 0))) ≡ placesOf n (cond x (judged s n (readRequest s)) (refused (early (length s) n m) 0 0))
+    go true q k = places (judged s n (readRequest s)) n L (w (early-few (length s) n m (eqb-true (early (length s) n m) 0 q))) k
     go false q k = structs-cleared n L

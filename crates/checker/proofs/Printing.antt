@@ -3,21 +3,24 @@ use mathlib.Core.Path.{_≡_, refl, sym, ap, ap₂, _∙_, subst}
 use Prim.Native.Nat.{ℕ, _-_, _≤_, _<_, _+_}
 use native.Mathlib.Omega.{arith}
 use mathlib.Core.Bool.{Bool, true, false, cond}
-use mathlib.Core.List.{List, [], _∷_, _++_, map}
+use mathlib.Core.Option.{Option}
+use mathlib.Core.List.{List, [], _∷_, _++_, map, append-assoc}
 use lib.ListN.{length, take, drop, replicate, length-append}
 use lib.Seq.{length-take-le, take-append-seam, drop-append-seam}
-use lib.Dec.{eqb}
+use lib.Dec.{eqb, leb}
 use borrow.Author.Tests.{le-leb, lt-leb}
+use Rattle.bitml.specs.Lists.{gather, below}
 use Rattle.bitml.specs.Rows as bitml
+use Rattle.bitml.proofs.Counting.{gather-up}
 use Rattle.tables.specs.SheetOf.{sheetOf, defEntryAt}
 use Rattle.replies.specs.declared.Reply.{Reply}
 use Rattle.texts.specs.Wrote.{Wrote}
 use Rattle.texts.specs.Text.{lineText, linesText, fields, line}
 use Rattle.texts.proofs.Writing.{wrote-none, drop-zeros}
-use Rattle.bitml.specs.Answers.{Request, making, checking, playing, refusedLine, Line, rowLine, liquidLine, frozenLine, takenLine, endLine, Answer, refused, printed, liquidBy, madeBy, checkedBy, eventLines, endOf, playLines, answer}
+use Rattle.bitml.specs.Answers.{making, makingAll, checking, playing, refusedLine, Line, rowLine, liquidLine, frozenLine, takenLine, endLine, Answer, refused, printed, liquidBy, madeLines, madeBy, madeForAll, checkedBy, eventLines, endOf, playLines, answer}
 use Rattle.replies.specs.Answer.{replyOf, bytesOf}
 use Rattle.bitml.specs.Sheet.{Sheet}
-use Rattle.bitml.specs.Ledger.{stipulated}
+use Rattle.bitml.specs.Ledger.{Event, stipulated}
 use Rattle.bitml.specs.Limits.{answers, limitedPlay}
 use Rattle.plays.specs.Values.{valuesOf}
 use Rattle.plays.specs.Events.{eventsOf}
@@ -27,7 +30,9 @@ use Rattle.bitml.specs.Rows.{check}
 use Rattle.reader.specs.Request.{Reading, request, readRequest}
 use Rattle.reader.specs.Request.{refused as unread}
 use Rattle.reader.specs.Request as part
-use Rattle.checker.specs.Entry.{answerFor, judged, early, answerTo, refusedIn, textIn}
+use Rattle.promises.specs.Texts.{PromisedWhole}
+use Rattle.promises.proofs.Whole.{promised-whole}
+use Rattle.checker.specs.Entry.{placesOfAll, answerForAll, answerFor, judged, early, answerTo, refusedIn, textIn}
 
 -- ---- the line of a refused request
 
@@ -47,10 +52,31 @@ pub data Says : Answer → Type 0 where
   refusal : (n l f : ℕ) → Says (refused n l f)
   lines : (ls : List Line) (l : Line) (R : List bitml.Row) → Says (printed (ls ++ (l ∷ [])) R)
 
-made-says : (s : Sheet) (p : ℕ) (v : Verdict) → Says (madeBy s p v)
-unfolding madeBy
-made-says s p (liquid R) = lines (map rowLine R) (liquidBy s p R) R
-made-says s p (frozen n) = lines [] (frozenLine p n) []
+-- so does a verdict
+record Ended (ls : List Line) : Type 0 where
+  before : List Line
+  last : Line
+  is : ls ≡ before ++ (last ∷ [])
+
+made-ended : (s : Sheet) (p : ℕ) (v : Verdict) → Ended (madeLines s p v)
+unfolding madeLines
+made-ended s p (liquid R) = record { before = map rowLine R; last = liquidBy s p R; is = refl }
+made-ended s p (frozen n) = record { before = []; last = frozenLine p n; is = refl }
+
+ended-says : (ls : List Line) (R : List bitml.Row) → Ended ls → Says (printed ls R)
+ended-says ls R e = subst (λ xs. Says (printed xs R)) (sym (e .is)) (lines (e .before) (e .last) R)
+
+-- and the verdicts of one participant or more
+all-ended : (s : Sheet) (K : ℕ) → 1 ≤ K → Ended (gather (λ p. madeLines s p (make s p)) (below K))
+all-ended s K h =
+    let f : ℕ → List Line = λ p. madeLines s p (make s p) in
+    let e = made-ended s (K - 1) (make s (K - 1)) in
+    let z : K ≡ K - 1 + 1 = omega arith in
+    record {
+      before = gather f (below (K - 1)) ++ e .before;
+      last = e .last;
+      is = ap (λ k. gather f (below k)) z ∙ gather-up f (K - 1) ∙ ap (λ xs. gather f (below (K - 1)) ++ xs) (e .is) ∙ sym (append-assoc (gather f (below (K - 1))) (e .before) (e .last ∷ []));
+    }
 
 checked-says : (s : Sheet) (p : ℕ) (R : List bitml.Row) (f : bitml.Fault) → Says (checkedBy s p R f)
 unfolding checkedBy
@@ -60,25 +86,40 @@ checked-says s p R f = go (eqb (f .number) 0)
     go true = lines [] (liquidBy s p R) R
     go false = refusal (f .number) (length (s .defs) + 2 + f .place) 0
 
-says : (q : Request) → Says (answer q)
-unfolding answer playLines
-says (making s p) = made-says s p (make s p)
-says (checking s p R) = checked-says s p R (check s p R)
-says (playing s vs es) = lines (eventLines (length (s .defs) + 3) (answers s (stipulated s vs) es)) (endOf (limitedPlay s (stipulated s vs) es)) []
+say-making : (s : Sheet) (p : ℕ) → Says (answer (making s p))
+unfolding answer madeBy
+say-making s p = ended-says _ _ (made-ended s p (make s p))
 
-judged-says : (s : List ℕ) (w : Reading) → Says (judged s w)
-unfolding judged answerFor
-judged-says s (request K E (part.make p)) = says (making (sheetOf K E) p)
-judged-says s (request K E (part.check p R)) = says (checking (sheetOf K E) p R)
-judged-says s (request K E (part.play v e)) = says (playing (sheetOf K E) (valuesOf s v (defEntryAt E 0 .secrets)) (eventsOf s K e))
-judged-says s (unread n l f) = refusal n l f
+say-all : (n : ℕ) (s : Sheet) → 1 ≤ s .participants → Says (answerForAll n s)
+unfolding answerForAll answer madeForAll
+say-all n s h = go (leb placesOfAll n)
+  where
+    go : (x : Bool) → Says (cond x (answer (makingAll s)) (refused 7 0 0))
+    go true = ended-says _ _ (all-ended s (s .participants) h)
+    go false = refusal 7 0 0
+
+say-checking : (s : Sheet) (p : ℕ) (R : List bitml.Row) → Says (answer (checking s p R))
+unfolding answer
+say-checking s p R = checked-says s p R (check s p R)
+
+say-playing : (s : Sheet) (vs : List (Option ℕ)) (es : List Event) → Says (answer (playing s vs es))
+unfolding answer playLines
+say-playing s vs es = lines (eventLines (length (s .defs) + 3) (answers s (stipulated s vs) es)) (endOf (limitedPlay s (stipulated s vs) es)) []
+
+judged-says : (s : List ℕ) (n : ℕ) (w : Reading) → readRequest s ≡ w → Says (judged s n w)
+unfolding judged answerFor sheetOf PromisedWhole
+judged-says s n (request K E (part.make p)) e = say-making (sheetOf K E) p
+judged-says s n (request K E part.makeAll) e = say-all n (sheetOf K E) (promised-whole s K E part.makeAll e .0 .limits .people .0)
+judged-says s n (request K E (part.check p R)) e = say-checking (sheetOf K E) p R
+judged-says s n (request K E (part.play v z)) e = say-playing (sheetOf K E) (valuesOf s v (defEntryAt E 0 .secrets)) (eventsOf s K z)
+judged-says s n (unread i l f) e = refusal i l f
 
 pub answer-says : (s : List ℕ) (n m : ℕ) → Says (answerTo s n m)
 unfolding answerTo
 answer-says s n m = go (eqb (early (length s) n m) 0)
   where
-    go : (x : Bool) → Says (cond x (judged s (readRequest s)) (refused (early (length s) n m) 0 0))
-    go true = judged-says s (readRequest s)
+    go : (x : Bool) → Says (cond x (judged s n (readRequest s)) (refused (early (length s) n m) 0 0))
+    go true = judged-says s n (readRequest s) refl
     go false = refusal (early (length s) n m) 0 0
 
 line-some : (word ns : List ℕ) → 0 < length (line word ns)

@@ -15,14 +15,13 @@ use Rattle.bitml.specs.Sheet.{Sheet}
 use Rattle.bitml.specs.Rows as rows
 use Rattle.bitml.specs.Rows.{Row, Wrong, missing, foreign, low, FaultAt, twice, rootless, row}
 use Rattle.bitml.specs.Ledger.{Event}
-use Rattle.bitml.specs.Rule.{Verdict, liquid, frozen}
-use Rattle.bitml.specs.Answers.{liquidBy, Answer, refused, printed, making, checking, playing, madeBy, checkedBy, answer}
+use Rattle.bitml.specs.Answers.{liquidBy, Answer, refused, printed, making, checking, playing, madeBy, madeForAll, checkedBy, answer}
 use Rattle.bitml.proofs.Lists.{and-no, and-false, and-i}
 use Rattle.bitml.proofs.Demands.{demands}
 use Rattle.fields.proofs.Ranges.{cond-cases}
 use Rattle.tables.specs.Entries.{Entries}
 use Rattle.tables.specs.SheetOf.{sheetOf, defEntryAt}
-use Rattle.reader.specs.Request.{Reading, request, make, check, play, readRequest}
+use Rattle.reader.specs.Request.{Reading, request, LastPart, make, makeAll, check, play, readRequest}
 use Rattle.reader.specs.Request.{refused as unread}
 use Rattle.promises.specs.Refusals.{ReadNumber, OfReadings}
 use Rattle.promises.proofs.Refusals.{of-readings}
@@ -32,16 +31,16 @@ use Rattle.plays.specs.Values.{valuesOf}
 use Rattle.plays.specs.Events.{eventsOf}
 use Rattle.plays.proofs.Ranges.{events-range}
 use Rattle.checker.specs.Demands.{Room}
-use Rattle.checker.specs.Entry.{answerFor, judged, answerTo}
-use Rattle.checker.specs.Refusals.{Why, tooLong, shortBuffers, notRead, rowsRefused, Refused, long, short, misread, declined, Placed, OfRefusals}
-use Rattle.checker.proofs.Entry.{early-long, early-rows, early-text}
+use Rattle.checker.specs.Entry.{placesOfAll, answerForAll, answerFor, judged, answerTo}
+use Rattle.checker.specs.Refusals.{Why, tooLong, shortBuffers, notRead, fewPlaces, rowsRefused, Refused, long, short, misread, few, declined, Placed, OfRefusals}
+use Rattle.checker.proofs.Entry.{early-long, early-rows, early-text, all-few, all-enough}
 use Rattle.checker.proofs.Demands.{answer-room, answer-read, formed}
 
 -- ---- what comes before reading
 
 module _ (s : List ℕ) (places text : ℕ) where
   abbrev early-answer : ℕ → Answer
-  early-answer n = cond (eqb n 0) (judged s (readRequest s)) (refused n 0 0)
+  early-answer n = cond (eqb n 0) (judged s places (readRequest s)) (refused n 0 0)
 
   answer-long : 65536 < length s → answerTo s places text ≡ refused 1 0 0
   unfolding answerTo
@@ -56,13 +55,19 @@ module _ (s : List ℕ) (places text : ℕ) where
 
   answer-unread : (n l f : ℕ) → Room s places text → readRequest s ≡ unread n l f → answerTo s places text ≡ refused n l f
   unfolding judged
-  answer-unread n l f r e = answer-room s places text r ∙ ap (judged s) e
+  answer-unread n l f r e = answer-room s places text r ∙ ap (judged s places) e
 
 -- ---- one reason
 
 -- the reason, where there is one
+unfoldable partWhy : LastPart → Why
+partWhy makeAll = fewPlaces
+partWhy (make p) = rowsRefused
+partWhy (check p R) = rowsRefused
+partWhy (play v e) = rowsRefused
+
 unfoldable readingWhy : Reading → Why
-readingWhy (request K E l) = rowsRefused
+readingWhy (request K E l) = partWhy l
 readingWhy (unread n l f) = notRead
 
 unfoldable whyOf : List ℕ → ℕ → ℕ → Why
@@ -77,10 +82,11 @@ module _ {s : List ℕ} {places text : ℕ} where
   room-why r = rw (le-leb _ _ (r .bytes), and-i _ _ (le-leb _ _ (r .enough-places)) (le-leb _ _ (r .enough-text)))
 
   refused-why : {w : Why} {n l f : ℕ} → Refused s places text w n l f → whyOf s places text ≡ w
-  unfolding whyOf readingWhy
+  unfolding whyOf readingWhy partWhy
   refused-why (long h) = rw (lt-leb _ _ h)
   refused-why (short h i) = rw (le-leb _ _ h, short-test places text i)
   refused-why (misread r e) = room-why r ∙ ap readingWhy e
+  refused-why (few r e h) = room-why r ∙ ap readingWhy e
   refused-why (declined r e d) = room-why r ∙ ap readingWhy e
 
 -- ---- the refusals of rows
@@ -109,6 +115,7 @@ module _ {s : List ℕ} {places text : ℕ} where
   refused-told (long h) = answer-long s places text h
   refused-told (short h i) = answer-short s places text h i
   refused-told (misread {n = n} {l = l} {f = f} r e) = answer-unread s places text n l f r e
+  refused-told (few {K = K} {E = E} r e h) = answer-read s places text r K E makeAll e ∙ sym (all-few places (sheetOf K E) h)
   refused-told (declined {K = K} {p = p} {n = n} {i = i} {E = E} {R = R} r e d) = answer-read s places text r K E (check p R) e ∙ fault-answer (sheetOf K E) p R n i d
 
   refused-placed : {w : Why} {n l f : ℕ} → Refused s places text w n l f → Placed w n l f
@@ -116,6 +123,7 @@ module _ {s : List ℕ} {places text : ℕ} where
   refused-placed (long h) = (refl, refl, refl)
   refused-placed (short h i) = (refl, refl, refl)
   refused-placed (misread {n = n} {l = l} {f = f} r e) = of-readings s n l f e
+  refused-placed (few r e h) = (refl, refl, refl)
   refused-placed (declined {K = K} {p = p} {E = E} {R = R} r e d) =
       (fault-number d .0, fault-number d .1, omega (arith, formed s K E (check p R) e .some-def), refl)
 
@@ -124,6 +132,7 @@ unfolding Placed ReadNumber
 placed-number tooLong n l f h = (omega (arith, h .0), omega (arith, h .0))
 placed-number shortBuffers n l f h = (omega (arith, h .0), omega (arith, h .0))
 placed-number notRead n l f h = (omega (arith, h .number .0), omega (arith, h .number .1))
+placed-number fewPlaces n l f h = (omega (arith, h .0), omega (arith, h .0))
 placed-number rowsRefused n l f h = (omega (arith, h .0), omega (arith, h .1))
 
 -- ---- what each last part is answered
@@ -133,14 +142,16 @@ module _ (s : List ℕ) (places text : ℕ) where
   Reasoned (refused n l f) = (w : Why) × Refused s places text w n l f
   Reasoned (printed ls R) = Unit {0}
 
-  made-by : (S : Sheet) (p : ℕ) (v : Verdict) → Reasoned (madeBy S p v)
-  unfolding madeBy Reasoned
-  made-by S p (liquid R) = tt
-  made-by S p (frozen n) = tt
-
   made : (S : Sheet) (p : ℕ) → Reasoned (answer (making S p))
-  unfolding answer
-  made S p = made-by S p _
+  unfolding answer madeBy Reasoned
+  made S p = tt
+
+  made-for-all : (K : ℕ) (E : Entries) → Room s places text → readRequest s ≡ request K E makeAll → Reasoned (answerForAll places (sheetOf K E))
+  unfolding answer madeForAll Reasoned
+  made-for-all K E r e =
+      by-cases (decLe placesOfAll places)
+      (λ h. subst Reasoned (all-enough places (sheetOf K E) h) tt)
+      (λ h. subst Reasoned (all-few places (sheetOf K E) (omega arith)) (fewPlaces, few r e (omega arith)))
 
   played : (S : Sheet) (vs : List (Option ℕ)) (es : List Event) → Reasoned (answer (playing S vs es))
   unfolding answer Reasoned
@@ -157,9 +168,10 @@ module _ (s : List ℕ) (places text : ℕ) where
       let fault = demands .check-is-fault S p R (f .number) (f .place) .0 (some, refl) in
       (rowsRefused, declined r e fault)
 
-  reading : Room s places text → (w : Reading) → readRequest s ≡ w → Reasoned (judged s w)
+  reading : Room s places text → (w : Reading) → readRequest s ≡ w → Reasoned (judged s places w)
   unfolding judged answerFor Reasoned
   reading r (request K E (make p)) e = made (sheetOf K E) p
+  reading r (request K E makeAll) e = made-for-all K E r e
   reading r (request K E (check p R)) e = checked K p E R r e
   reading r (request K E (play v z)) e = played (sheetOf K E) (valuesOf s v (defEntryAt E 0 .secrets)) (eventsOf s K z)
   reading r (unread n l f) e = (notRead, misread r e)

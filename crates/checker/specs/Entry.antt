@@ -5,11 +5,12 @@ use mathlib.Core.List.{List, [], _++_, map}
 use lib.ListN.{length, replicate}
 use lib.Dec.{leb, eqb}
 use Rattle.bitml.specs.Lists.{_&_, ask}
+use Rattle.bitml.specs.Sheet.{Sheet}
 use Rattle.tables.specs.Entries.{Entries}
 use Rattle.tables.specs.SheetOf.{sheetOf, defEntryAt}
-use Rattle.reader.specs.Request.{Reading, request, LastPart, make, check, play, readRequest}
+use Rattle.reader.specs.Request.{Reading, request, LastPart, make, makeAll, check, play, readRequest}
 use Rattle.reader.specs.Request.{refused as unread}
-use Rattle.bitml.specs.Answers.{refusedLine, making, checking, playing, Answer, refused, printed, answer}
+use Rattle.bitml.specs.Answers.{refusedLine, making, makingAll, checking, playing, Answer, refused, printed, answer}
 use Rattle.texts.specs.Text.{lineText, linesText}
 use Rattle.lent.specs.declared.Row.{Row}
 use Rattle.lent.specs.Structs.{noRow, structOf}
@@ -17,16 +18,25 @@ use Rattle.replies.specs.Answer.{leastText}
 use Rattle.plays.specs.Values.{valuesOf}
 use Rattle.plays.specs.Events.{eventsOf}
 
--- "one last part: `make`,P; or `check`,P ..; or `play` .."
-unfoldable pub answerFor : List ℕ → ℕ → Entries → LastPart → Answer
-answerFor s K E (make p) = answer (making (sheetOf K E) p)
-answerFor s K E (check p R) = answer (checking (sheetOf K E) p R)
-answerFor s K E (play v e) = answer (playing (sheetOf K E) (valuesOf s v (defEntryAt E 0 .secrets)) (eventsOf s K e))
+-- `makeall`: "Its call lends 8,192 places for rows"
+abbrev pub placesOfAll : ℕ
+placesOfAll = 8192
+
+-- "Fewer places get 7 at line 0, field 0, looked at after reading has found nothing bad"
+unfoldable pub answerForAll : ℕ → Sheet → Answer
+answerForAll rows s = cond (leb placesOfAll rows) (answer (makingAll s)) (refused 7 0 0)
+
+-- "one last part: `make`,P; or `check`,P ..; or `play` .."; or `makeall`
+unfoldable pub answerFor : List ℕ → ℕ → ℕ → Entries → LastPart → Answer
+answerFor s rows K E (make p) = answer (making (sheetOf K E) p)
+answerFor s rows K E makeAll = answerForAll rows (sheetOf K E)
+answerFor s rows K E (check p R) = answer (checking (sheetOf K E) p R)
+answerFor s rows K E (play v e) = answer (playing (sheetOf K E) (valuesOf s v (defEntryAt E 0 .secrets)) (eventsOf s K e))
 
 -- "The reader goes field by field over the whole request before anything is judged"
-unfoldable pub judged : List ℕ → Reading → Answer
-judged s (request K E l) = answerFor s K E l
-judged s (unread n l f) = refused n l f
+unfoldable pub judged : List ℕ → ℕ → Reading → Answer
+judged s rows (request K E l) = answerFor s rows K E l
+judged s rows (unread n l f) = refused n l f
 
 -- "over 65,536 bytes; line 0, field 0"; "a lent row buffer under 512 (line 0, field 0)", and so a text buffer in which not every reply fits:
 -- "1, then short buffers, come first"
@@ -35,7 +45,7 @@ early bytes rows text = ask (leb bytes 65536) 1 (ask (leb 512 rows & leb leastTe
 
 -- a request of the bytes s, with places for so many rows and bytes of text
 unfoldable pub answerTo : List ℕ → ℕ → ℕ → Answer
-answerTo s rows text = cond (eqb (early (length s) rows text) 0) (judged s (readRequest s)) (refused (early (length s) rows text) 0 0)
+answerTo s rows text = cond (eqb (early (length s) rows text) 0) (judged s rows (readRequest s)) (refused (early (length s) rows text) 0 0)
 
 -- "The row buffer holds the rows .. and is zero past them; it is wholly zero after .. a refused request": a buffer of n places
 unfoldable pub placesOf : ℕ → Answer → List Row

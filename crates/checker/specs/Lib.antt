@@ -1,3 +1,4 @@
 pub mod Demands
 pub mod Entry
+pub mod Lending
 pub mod Refusals

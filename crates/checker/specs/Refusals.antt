@@ -11,18 +11,18 @@ use Rattle.bitml.specs.Limits.{answers}
 use Rattle.bitml.specs.Answers.{refused}
 use Rattle.tables.specs.Entries.{Entries}
 use Rattle.tables.specs.SheetOf.{sheetOf, defEntryAt}
-use Rattle.reader.specs.Request.{request, check, play, readRequest}
+use Rattle.reader.specs.Request.{request, makeAll, check, play, readRequest}
 use Rattle.reader.specs.Request.{refused as unread}
 use Rattle.promises.specs.Refusals.{WhileReading, EventNumber}
 use Rattle.replies.specs.Answer.{leastText}
 use Rattle.plays.specs.Values.{valuesOf}
 use Rattle.plays.specs.Events.{eventsOf}
 use Rattle.checker.specs.Demands.{Room}
-use Rattle.checker.specs.Entry.{answerTo}
+use Rattle.checker.specs.Entry.{placesOfAll, answerTo}
 
--- "1, then short buffers, come first", then reading, and rows are judged last
+-- "1, then short buffers, come first", then reading, and rows, those given and the places for those of all, are judged last
 pub data Why : Type 0 where
-  tooLong shortBuffers notRead rowsRefused : Why
+  tooLong shortBuffers notRead fewPlaces rowsRefused : Why
 
 -- "`refused`,number,line,field", for each reason
 pub data Refused (s : List ℕ) (places text : ℕ) : Why → ℕ → ℕ → ℕ → Type 0 where
@@ -32,6 +32,8 @@ pub data Refused (s : List ℕ) (places text : ℕ) : Why → ℕ → ℕ → �
   short : length s ≤ 65536 → (places < 512) ⊎ (text < leastText) → Refused s places text shortBuffers 7 0 0
   -- "reading stops at its first bad field"
   misread : {n l f : ℕ} → Room s places text → readRequest s ≡ unread n l f → Refused s places text notRead n l f
+  -- `makeall`: "Fewer places get 7 at line 0, field 0, looked at after reading has found nothing bad"
+  few : {K : ℕ} {E : Entries} → Room s places text → readRequest s ≡ request K E makeAll → places < placesOfAll → Refused s places text fewPlaces 7 0 0
   -- "Rows: 10 .., 11 .., then row by row 11, 12, 13": the fault that comes first, at the line of its row
   declined : {K p n i : ℕ} {E : Entries} {R : List Row} → Room s places text → readRequest s ≡ request K E (check p R)
       → FaultAt (sheetOf K E) p R n i → Refused s places text rowsRefused n (length (sheetOf K E .defs) + 2 + i) 0
@@ -41,6 +43,7 @@ unfoldable pub Placed : Why → ℕ → ℕ → ℕ → Type 0
 Placed tooLong n l f = (n ≡ 1) × (l ≡ 0) × (f ≡ 0)
 Placed shortBuffers n l f = (n ≡ 7) × (l ≡ 0) × (f ≡ 0)
 Placed notRead n l f = WhileReading n l f
+Placed fewPlaces n l f = (n ≡ 7) × (l ≡ 0) × (f ≡ 0)
 Placed rowsRefused n l f = (10 ≤ n) × (n ≤ 13) × (3 ≤ l) × (f ≡ 0)
 
 pub record OfRefusals : Type 0 where

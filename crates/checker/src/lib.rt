@@ -1,4 +1,6 @@
 // The checker's entry: any request and any lent buffers get one reply, and so do any text and any table.
+use fields::Got;
+use fields::first;
 use lent::Row;
 use lent::emit_rows;
 use loading::read_sheet;
@@ -7,26 +9,39 @@ use reader::Request;
 use reader::read;
 use replies::Reply;
 use replies::refuse;
+use requests::MAKEALL;
 use saving::write_sheet;
 use tables::Sheet;
 use texts::put_refused;
 use verdicts::check_for;
+use verdicts::make_all_for;
 use verdicts::make_for;
 ghost use mathlib.Core.Path.{_≡_};
-ghost use Prim.Native.Nat.{_/_, _-_, _≤_};
+ghost use mathlib.Core.Bool.{true, false};
+ghost use Prim.Native.Nat.{_/_, _*_, _-_, _≤_};
 ghost use lib.ListN.{length, take, drop, replicate};
 ghost use Rattle.reader.specs.Request.{readRequest};
+ghost use Rattle.tables.specs.SheetOf.{sheetIn};
+ghost use Rattle.sheets.specs.Ready.{Ready};
 ghost use Rattle.texts.specs.Wrote.{Wrote};
 ghost use Rattle.replies.specs.Answer.{Gives, replyOf, numbersOf, bytesOf, leastText};
 ghost use Rattle.loading.specs.Loading.{loading, replyTo, cellsOf};
 ghost use Rattle.saving.specs.Saving as saved;
 ghost use Rattle.saving.specs.Saving.{saving};
-ghost use Rattle.checker.specs.Entry.{judged, early, answerTo, placesOf, refusedIn, textIn};
+ghost use Rattle.checker.specs.Entry.{placesOfAll, answerForAll, judged, early, answerTo, placesOf, refusedIn, textIn};
+ghost use Rattle.checker.specs.Lending.{numbersOfOne, numbersOfAll, Wide, endsInAll, wantsAll};
 
-// The longest request, and the fewest rows that must be lent.
+// The longest request, and the fewest rows that must be lent: for any word, and for `makeall`.
 const BYTES: usize = 65536;
 
 const ROWS: usize = 512;
+
+const ALL_ROWS: usize = 8192;
+
+// Three numbers for each.
+const NUMBERS: usize = 1536;
+
+const ALL_NUMBERS: usize = 24576;
 
 // The fewest bytes for a line of three numbers.
 const LINE: usize = 80;
@@ -52,15 +67,30 @@ fn early(bytes: usize, rows: usize, text: usize) -> usize
     0
 }
 
+// `makeall` of a sheet that stands in the table, where the caller has places for so many rows.
+fn all_for(t: &[usize], room: usize, rows: &mut [usize], text: &mut [u8]) -> Reply
+    requires { ⌜ Ready (now t) ⌝ }
+    requires { ⌜ (placesOfAll ≤ room → numbersOfAll ≤ length (now rows)) ⌝ }
+    requires { ⌜ leastText ≤ length (now text) ⌝ }
+    ensures { λ r. ⌜ Gives (answerForAll room (sheetIn (now (t .entry)))) (length (now (rows .entry))) (length (now (text .entry))) r (now (rows .exit)) (now (text .exit)) ⌝ }
+{
+    if room < ALL_ROWS {
+        return refuse(TOO_SHORT, 0, 0, rows, text);
+    }
+    make_all_for(t, rows, text)
+}
+
 // A request that is not too long, with buffers that are not too short.
-fn judged(s: &[u8], rows: &mut [usize], text: &mut [u8]) -> Reply
-    requires { ⌜ (length (now s) ≤ 65536) × (1536 ≤ length (now rows)) × (leastText ≤ length (now text)) ⌝ }
-    ensures { λ r. ⌜ Gives (judged (now (s .entry)) (readRequest (now (s .entry)))) (length (now (rows .entry))) (length (now (text .entry))) r (now (rows .exit)) (now (text .exit)) ⌝ }
+fn judged(s: &[u8], room: usize, rows: &mut [usize], text: &mut [u8]) -> Reply
+    requires { ⌜ (length (now s) ≤ 65536) × (numbersOfOne ≤ length (now rows)) × (leastText ≤ length (now text)) ⌝ }
+    requires { ⌜ Wide (now s) room (length (now rows)) ⌝ }
+    ensures { λ r. ⌜ Gives (judged (now (s .entry)) room (readRequest (now (s .entry)))) (length (now (rows .entry))) (length (now (text .entry))) r (now (rows .exit)) (now (text .exit)) ⌝ }
 {
     let mut t = [0usize; Sheet::TABLE];
     let r = read(s, &mut t, rows);
     match r {
         Request::Make(p) => make_for(&t, p, rows, text),
+        Request::MakeAll => all_for(&t, room, rows, text),
         Request::Check(p, n) => check_for(&t, p, n, rows, text),
         Request::Play(v, e) => play_for(s, v, e, &t, rows, text),
         Request::Refused(n, l, f) => refuse(n, l, f, rows, text),
@@ -69,7 +99,8 @@ fn judged(s: &[u8], rows: &mut [usize], text: &mut [u8]) -> Reply
 
 // The same of any request and any text buffer. The caller has places for so many rows, three numbers each, and lends them as numbers.
 fn judge_in(s: &[u8], room: usize, numbers: &mut [usize], text: &mut [u8]) -> Reply
-    requires { ⌜ (512 ≤ room → 1536 ≤ length (now numbers)) ⌝ }
+    requires { ⌜ (512 ≤ room → numbersOfOne ≤ length (now numbers)) ⌝ }
+    requires { ⌜ Wide (now s) room (length (now numbers)) ⌝ }
     ensures { λ r. ⌜ r ≡ replyOf (answerTo (now (s .entry)) room (length (now (text .entry)))) ⌝ }
     ensures { λ r. ⌜ now (numbers .exit) ≡ numbersOf (length (now (numbers .entry))) (answerTo (now (s .entry)) room (length (now (text .entry)))) ⌝ }
     ensures { λ r. ⌜ now (text .exit) ≡ bytesOf (length (now (text .entry))) (answerTo (now (s .entry)) room (length (now (text .entry)))) ⌝ }
@@ -78,7 +109,7 @@ fn judge_in(s: &[u8], room: usize, numbers: &mut [usize], text: &mut [u8]) -> Re
     if n != 0 {
         return refuse(n, 0, 0, numbers, text);
     }
-    judged(s, numbers, text)
+    judged(s, room, numbers, text)
 }
 
 // The entry for callers whose rows are numbers: node, branch and rank of each.
@@ -91,6 +122,46 @@ pub fn judge_numbers(s: &[u8], numbers: &mut [usize], text: &mut [u8]) -> Reply
     judge_in(s, room, numbers, text)
 }
 
+// Whether the request's last line is `makeall`.
+fn ends_in_all(s: &[u8]) -> bool
+    ensures { λ r. ⌜ r ≡ endsInAll (now (s .entry)) ⌝ }
+{
+    let n = s.len();
+    if n < 8 {
+        return false;
+    }
+    let g = first(s, n - 8);
+    match g {
+        Got::Value(w, _) => w == MAKEALL,
+        Got::Bad(_, _) => false,
+    }
+}
+
+// Whether rows for all participants may be asked for: then numbers for as many have to be lent, and no others pay for that.
+fn wants_all(s: &[u8], room: usize) -> bool
+    ensures { λ r. ⌜ r ≡ wantsAll (now (s .entry)) room ⌝ }
+    ensures { λ r. ⌜ (r ≡ true → placesOfAll ≤ room) ⌝ }
+    ensures { λ r. ⌜ (r ≡ false → Wide (now (s .entry)) room numbersOfOne) ⌝ }
+{
+    if room < ALL_ROWS {
+        return false;
+    }
+    ends_in_all(s)
+}
+
+// The same for a caller whose rows are structs. They are filled from numbers, of which enough are lent.
+fn judge_rows(s: &[u8], numbers: &mut [usize], rows: &mut [Row], text: &mut [u8]) -> Reply
+    requires { ⌜ (512 ≤ length (now rows) → (numbersOfOne ≤ length (now numbers)) × (length (now numbers) ≤ 3 * length (now rows))) ⌝ }
+    requires { ⌜ Wide (now s) (length (now rows)) (length (now numbers)) ⌝ }
+    ensures { λ r. ⌜ r ≡ replyOf (answerTo (now (s .entry)) (length (now (rows .entry))) (length (now (text .entry)))) ⌝ }
+    ensures { λ r. ⌜ now (rows .exit) ≡ placesOf (length (now (rows .entry))) (answerTo (now (s .entry)) (length (now (rows .entry))) (length (now (text .entry)))) ⌝ }
+    ensures { λ r. ⌜ now (text .exit) ≡ bytesOf (length (now (text .entry))) (answerTo (now (s .entry)) (length (now (rows .entry))) (length (now (text .entry)))) ⌝ }
+{
+    let r = judge_in(s, rows.len(), numbers, text);
+    emit_rows(numbers, rows);
+    r
+}
+
 // The entry for callers whose rows are structs.
 #[no_mangle]
 pub extern "C" fn hurkoxel_judge(s: &[u8], rows: &mut [Row], text: &mut [u8]) -> Reply
@@ -98,10 +169,12 @@ pub extern "C" fn hurkoxel_judge(s: &[u8], rows: &mut [Row], text: &mut [u8]) ->
     ensures { λ r. ⌜ now (rows .exit) ≡ placesOf (length (now (rows .entry))) (answerTo (now (s .entry)) (length (now (rows .entry))) (length (now (text .entry)))) ⌝ }
     ensures { λ r. ⌜ now (text .exit) ≡ bytesOf (length (now (text .entry))) (answerTo (now (s .entry)) (length (now (rows .entry))) (length (now (text .entry)))) ⌝ }
 {
-    let mut numbers = [0usize; 1536];
-    let r = judge_in(s, rows.len(), &mut numbers, text);
-    emit_rows(&numbers, rows);
-    r
+    if wants_all(s, rows.len()) {
+        let mut numbers = [0usize; ALL_NUMBERS];
+        return judge_rows(s, &mut numbers, rows, text);
+    }
+    let mut numbers = [0usize; NUMBERS];
+    judge_rows(s, &mut numbers, rows, text)
 }
 
 // The line of a refused request, at the start of the buffer; a buffer under 80 bytes stays as it is. How many bytes were written comes back.

@@ -9,6 +9,7 @@ use lib.Dec.{eqb, ltb}
 use borrow.Author.Tests.{ne-eqb, lt-ltb, ltb-true, eqb-true, eqb-false}
 use Rattle.bitml.specs.Lists.{_&_, sum, keep, below, upFrom, All}
 use Rattle.bitml.specs.Rows.{Row, rankOf}
+use Rattle.bitml.specs.Answers.{noRow}
 use Rattle.bitml.specs.Rule as rule
 use Rattle.bitml.specs.Rule.{make, stuck, rows, rowFor, reached, rankAt, verdict, liquid, frozen}
 use Rattle.bitml.proofs.Lists.{all-head, all-of, keep-imp, up-mem, map-cong}
@@ -69,13 +70,19 @@ unfolding flat
 flat-length [] = omega arith
 flat-length (r ∷ rs) = omega (arith, flat-length rs)
 
-pub flat-append : (rs : List Row) (r : Row) → flat (rs ++ (r ∷ [])) ≡ flat rs ++ (r .node ∷ r .branch ∷ r .rank ∷ [])
+pub flat-append : (rs qs : List Row) → flat (rs ++ qs) ≡ flat rs ++ flat qs
 unfolding flat
-flat-append [] r = refl
-flat-append (q ∷ rs) r = ap (λ xs. q .node ∷ q .branch ∷ q .rank ∷ xs) (flat-append rs r)
+flat-append [] qs = refl
+flat-append (r ∷ rs) qs = ap (λ xs. r .node ∷ r .branch ∷ r .rank ∷ xs) (flat-append rs qs)
+
+-- places of zeros
+pub flat-zeros : (k : ℕ) → flat (replicate k noRow) ≡ replicate (3 * k) 0
+unfolding flat
+flat-zeros zero = refl
+flat-zeros (suc k) = ap (λ xs. 0 ∷ 0 ∷ 0 ∷ xs) (flat-zeros k) ∙ ap (λ m. replicate m 0) (let z : suc (suc (suc (3 * k))) ≡ 3 * suc k = omega arith in z)
 
 pub filled-put : (L j : ℕ) (rs : List Row) (r : Row) → j ≡ length rs → 3 * j + 3 ≤ L → put (filled L rs) j (r .node) (r .branch) (r .rank) ≡ filled L (rs ++ (r ∷ []))
-unfolding filled
+unfolding filled flat
 filled-put L j rs r e h =
     let F = flat rs in
     let m = L - (3 * length rs + 3) in
@@ -92,7 +99,7 @@ filled-put L j rs r e h =
     ∙ ap (λ i. set (set (set Y (length F) (r .node)) (suc (length F)) (r .branch)) i (r .rank)) i₂
     ∙ put-three F (replicate m 0) (r .node) (r .branch) (r .rank)
     ∙ sym (append-assoc F (r .node ∷ r .branch ∷ r .rank ∷ []) (replicate m 0))
-    ∙ ap₂ (λ xs k. xs ++ replicate k 0) (sym (flat-append rs r)) w
+    ∙ ap₂ (λ xs k. xs ++ replicate k 0) (sym (flat-append rs (r ∷ []))) w
 
 module _ (M R B : List ℕ) (i : ℕ) where
   rows-next : rowsBy M R B (i + 1) ≡ rowsBy M R B i ++ map (rowBy R B) (keep (markedBy M) (i ∷ []))

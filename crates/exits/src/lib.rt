@@ -281,27 +281,22 @@ fn spread(t: &[usize], seen: &[usize; Sheet::DEFS], marks: &mut [usize; Sheet::N
 }
 
 // Marks the reached nodes.
-fn reach(
-    t: &[usize],
-    seen: &mut [usize; Sheet::DEFS],
-    queue: &mut [usize; Sheet::DEFS],
-    marks: &mut [usize; Sheet::NODES],
-    x: &[usize],
-)
+pub fn reach(t: &[usize], marks: &mut [usize; Sheet::NODES], x: &[usize])
     requires { ⌜ Ready (now t) ⌝ }
-    requires { ⌜ Marked (people (now t)) (held (now t)) (now seen) (now queue) 0 ⌝ }
     requires { ⌜ (length (now marks) ≡ 512) × ((m : ℕ) → getD (now marks) m 0 ≡ 0) ⌝ }
     requires { ⌜ Indexed (held (now t)) (now x) ⌝ }
     ensures { λ _. ⌜ MarksReached (people (now (t .entry))) (held (now (t .entry))) (now (marks .exit)) ⌝ }
 {
-    let mut end = visit(t, seen, queue, 0, 0);
+    let mut seen = [0usize; Sheet::DEFS];
+    let mut queue = [0usize; Sheet::DEFS];
+    let mut end = visit(t, &mut seen, &mut queue, 0, 0);
     let mut head = 0;
     while head < end {
         let d = queue[head];
-        end = visit_def(t, seen, queue, end, d, x);
+        end = visit_def(t, &mut seen, &mut queue, end, d, x);
         head += 1;
     }
-    spread(t, seen, marks);
+    spread(t, &seen, marks);
 }
 
 // The whole row buffer becomes zero.
@@ -376,29 +371,32 @@ fn put_rows<'a>(
     j
 }
 
-// Whether the sheet is liquid for p: the published rows, or the lowest reached node that has no exit. The rows stand in the buffer,
-// three numbers each.
-pub fn make(t: &[usize], p: usize, rows: &mut [usize], x: &[usize]) -> Verdict
+// Whether the sheet, whose reached nodes are marked, is liquid for p: the published rows, or the lowest reached node that has no exit.
+// The rows stand in the buffer, three numbers each.
+pub fn make(
+    t: &[usize],
+    p: usize,
+    rows: &mut [usize],
+    x: &[usize],
+    marks: &[usize; Sheet::NODES],
+) -> Verdict
     requires { ⌜ Ready (now t) ⌝ }
     requires { ⌜ (p < people (now t)) × (1536 ≤ length (now rows)) ⌝ }
     requires { ⌜ Indexed (held (now t)) (now x) ⌝ }
+    requires { ⌜ MarksReached (people (now t)) (held (now t)) (now marks) ⌝ }
     ensures { λ r. ⌜ r ≡ answerOf (rule.make (sheetIn (now (t .entry))) p) ⌝ }
     ensures { λ r. ⌜ now (rows .exit) ≡ bufferOf (length (now (rows .entry))) (rule.make (sheetIn (now (t .entry))) p) ⌝ }
 {
     let mask = mask_of(p);
     let mut ranks = [0usize; Sheet::NODES];
     let mut branches = [0usize; Sheet::NODES];
-    let mut marks = [0usize; Sheet::NODES];
-    let mut seen = [0usize; Sheet::DEFS];
-    let mut queue = [0usize; Sheet::DEFS];
     rank_all(t, p, mask, &mut ranks, &mut branches, x);
-    reach(t, &mut seen, &mut queue, &mut marks, x);
     clear(rows);
     let n = node_total(t);
-    let bad = first_stuck(&marks, &ranks, n);
+    let bad = first_stuck(marks, &ranks, n);
     if bad < n {
         return Verdict::Frozen(bad);
     }
-    let count = put_rows(&marks, &ranks, &branches, n, rows);
+    let count = put_rows(marks, &ranks, &branches, n, rows);
     Verdict::Liquid(count, ranks[0])
 }

@@ -11,8 +11,8 @@ ghost use Rattle.judge.specs.Input.{Within};
 // The longest request has 65,536 bytes: of a longer one, one byte more is read.
 const BYTES: usize = 65537;
 
-// Three numbers for each of 512 rows.
-const NUMBERS: usize = 1536;
+// Three numbers for each of 8,192 rows: `makeall` asks for so many.
+const NUMBERS: usize = 24576;
 
 // The count of bytes up to the end of the input, or of the buffer; or a read failed.
 enum Input {

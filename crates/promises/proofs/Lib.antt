@@ -6,3 +6,4 @@ pub mod ToldSheets
 pub mod ToldParts
 pub mod Refusals
 pub mod Events
+pub mod LastLine

@@ -21,6 +21,7 @@ ghost use Rattle.reader.specs.Request.{refusedAt, fromPart, fromSheet, r
 pub enum Request {
     // The participant.
     Make(usize),
+    MakeAll,
     // The participant, and how many rows stand in the buffer.
     Check(usize, usize),
     // Where the values start, and where the events do.
@@ -77,6 +78,7 @@ fn after_sheet(s: &[u8], at: usize, t: &[usize], buffer: &mut [usize]) -> Reques
     let o = last_part(s, at, k, secrets);
     match o {
         Part::Make(p) => Request::Make(p),
+        Part::MakeAll => Request::MakeAll,
         Part::Check(p, from) => check_part(s, p, from, t, buffer),
         Part::Play(values, from) => play_part(s, values, from, k),
         Part::Bad(n, q) => refuse(s, n, q),

@@ -12,7 +12,7 @@ use Rattle.fields.proofs.Ranges.{when-read-cases, cond-cases, never, below-end,
 use Rattle.fields.specs.Field.{spelled, whenRead, belowAt, betweenAt, firstAt, lineEndAt}
 use Rattle.fields.specs.declared.Got.the-variants.{Value, Bad}
 use Rattle.requests.proofs.Laws.{past-end}
-use Rattle.requests.specs.Part.{participantAt, pastValueAt, pastValuesAt, makeAt, checkAt, playAt, lastPartAt}
+use Rattle.requests.specs.Part.{participantAt, pastValueAt, pastValuesAt, makeAt, makeAllAt, checkAt, playAt, lastPartAt}
 use Rattle.bitml.specs.Rows.{Row}
 use Rattle.requests.specs.Rows.{mostRank, mostRows, row, RowFits, Rows, rowsWith, rowNumbersAt, rowAt, noRoomAt, withLine, rowsFrom, rowsAt}
 use Rattle.requests.specs.declared.Part.{Part}
@@ -25,6 +25,7 @@ use Rattle.requests.specs.declared.RowLine.the-variants as line
 -- the participant is one of them, the values of secrets are there up to the LF, and the lines go on within the request
 unfoldable pub PartSound : List ℕ → ℕ → ℕ → Part → Type 0
 PartSound s people secrets (part.Make p) = p < people
+PartSound s people secrets part.MakeAll = Unit {0}
 PartSound s people secrets (part.Check p e) = (p < people) × (e ≤ length s)
 PartSound s people secrets (part.Play f e) = (pastValuesAt s secrets f ≡ Value 0 (e - 1)) × (f < e) × (e ≤ length s)
 PartSound s people secrets (part.Bad n p) = Unit {0}
@@ -59,6 +60,12 @@ module _ (s : List ℕ) (people secrets : ℕ) where
       when-read-cases (PartSound s people secrets) part.Bad (participantAt s people e) _ bad λ p f g.
       cond-cases (PartSound s people secrets) (ltb f (length s)) (part.Bad 9 f) (part.Make p) (λ t. bad 9 f) (λ t. participant-end s people e p f g .0)
 
+  make-all-sound : (e : ℕ) → PartSound s people secrets (makeAllAt s e)
+  unfolding makeAllAt PartSound
+  make-all-sound e =
+      when-read-cases (PartSound s people secrets) part.Bad (lineEndAt s e) _ bad λ v f g.
+      cond-cases (PartSound s people secrets) (ltb f (length s)) (part.Bad 9 f) part.MakeAll (λ t. bad 9 f) (λ t. tt)
+
   check-sound : (e : ℕ) → PartSound s people secrets (checkAt s people e)
   unfolding checkAt PartSound
   check-sound e = when-read-cases (PartSound s people secrets) part.Bad (participantAt s people e) _ bad λ p f g. participant-end s people e p f g
@@ -77,6 +84,7 @@ module _ (s : List ℕ) (people secrets : ℕ) where
   part-sound at =
       when-read-cases (PartSound s people secrets) part.Bad (firstAt s at) _ bad λ w e g.
       cond-cases (PartSound s people secrets) (eqb w (spelled "make")) (makeAt s people e) _ (λ t. make-sound e) λ t.
+      cond-cases (PartSound s people secrets) (eqb w (spelled "makeall")) (makeAllAt s e) _ (λ t. make-all-sound e) λ t.
       cond-cases (PartSound s people secrets) (eqb w (spelled "check")) (checkAt s people e) _ (λ t. check-sound e) λ t.
       cond-cases (PartSound s people secrets) (eqb w (spelled "play")) (playAt s secrets e) (part.Bad 3 at) (λ t. play-sound e) λ t.
       bad 3 at

@@ -39,6 +39,7 @@ pastValuesAt s zero at = Value 0 at
 pastValuesAt s (suc n) at = whenRead Bad (pastValueAt s at) λ v e. pastValuesAt s n e
 
 -- ---- "Then one last part: `make`,P; or `check`,P and [..] lines `row` [..]; or `play` with a value for each secret of definition 0 [..] and event lines."
+-- And `makeall`, of "All parties in a single call"
 
 -- P, and the position after the line
 unfoldable pub participantAt : List ℕ → ℕ → ℕ → Got
@@ -52,6 +53,12 @@ makeAt s people at =
     whenRead part.Bad (participantAt s people at) λ p e.
     cond (ltb e (length s)) (part.Bad 9 e) (part.Make p)
 
+-- "`makeall` takes no field after the word", nor does a line follow
+unfoldable pub makeAllAt : List ℕ → ℕ → Part
+makeAllAt s at =
+    whenRead part.Bad (lineEndAt s at) λ v e.
+    cond (ltb e (length s)) (part.Bad 9 e) part.MakeAll
+
 unfoldable pub checkAt : List ℕ → ℕ → ℕ → Part
 checkAt s people at = whenRead part.Bad (participantAt s people at) part.Check
 
@@ -64,6 +71,7 @@ unfoldable pub lastPartAt : List ℕ → ℕ → ℕ → ℕ → Part
 lastPartAt s people secrets at =
     whenRead part.Bad (firstAt s at) λ w e.
     cond (eqb w (spelled "make")) (makeAt s people e)
+    (cond (eqb w (spelled "makeall")) (makeAllAt s e)
     (cond (eqb w (spelled "check")) (checkAt s people e)
     (cond (eqb w (spelled "play")) (playAt s secrets e)
-    (part.Bad 3 at)))
+    (part.Bad 3 at))))

@@ -1,4 +1,4 @@
-// The last part of a request: `make`, `check` with its rows, `play` with its values.
+// The last part of a request: `make`, `makeall`, `check` with its rows, `play` with its values.
 use fields::Got;
 use fields::first;
 use fields::line_end;
@@ -11,12 +11,15 @@ ghost use mathlib.Core.Path.{_≡_};
 ghost use mathlib.Core.List.{[], _∷_, _++_};
 ghost use Prim.Native.Nat.{_+_, _≤_, _<_};
 ghost use lib.ListN.{length};
-ghost use Rattle.requests.specs.Part.{lastPartAt, makeAt, checkAt, playAt, participantAt, valueAt, pastValueAt, pastValuesAt};
+ghost use Rattle.requests.specs.Part.{lastPartAt, makeAt, makeAllAt, checkAt, playAt, participantAt, valueAt, pastValueAt, pastValuesAt};
 ghost use Rattle.requests.specs.Rows.{countIn, rowAt, rowNumbersAt, noRoomAt, rowsOf, pastRows, row, rowsAt, RowsHeld};
 ghost use Rattle.tables.specs.Entries.{tableLong};
 
 const MAKE: usize = ((b'm' as usize * 256 + b'a' as usize) * 256 + b'k' as usize) * 256
     + b'e' as usize;
+
+pub const MAKEALL: usize = ((MAKE * 256 + b'a' as usize) * 256 + b'l' as usize) * 256
+    + b'l' as usize;
 
 const CHECK: usize = (((b'c' as usize * 256 + b'h' as usize) * 256 + b'e' as usize) * 256
     + b'c' as usize)
@@ -41,6 +44,7 @@ pub const ROWS: usize = 512;
 pub enum Part {
     // The participant.
     Make(usize),
+    MakeAll,
     // The participant, and where the rows start.
     Check(usize, usize),
     // Where the values start, and where the events do.
@@ -146,6 +150,22 @@ fn make_part(s: &[u8], at: usize, people: usize) -> Part
     }
 }
 
+// `makeall`, after its word.
+fn make_all_part(s: &[u8], at: usize) -> Part
+    ensures { λ r. ⌜ r ≡ makeAllAt (now (s .entry)) at ⌝ }
+{
+    let g = line_end(s, at);
+    match g {
+        Got::Value(_, e) => {
+            if e < s.len() {
+                return Part::Bad(9, e);
+            }
+            Part::MakeAll
+        }
+        Got::Bad(m, q) => Part::Bad(m, q),
+    }
+}
+
 // `check`, after its word.
 fn check_part(s: &[u8], at: usize, people: usize) -> Part
     ensures { λ r. ⌜ r ≡ checkAt (now (s .entry)) people at ⌝ }
@@ -182,6 +202,7 @@ pub fn last_part(s: &[u8], at: usize, people: usize, secrets: usize) -> Part
     match g {
         Got::Value(w, e) => match w {
             MAKE => make_part(s, e, people),
+            MAKEALL => make_all_part(s, e),
             CHECK => check_part(s, e, people),
             PLAY => play_part(s, e, secrets),
             _ => Part::Bad(3, at),

@@ -34,7 +34,7 @@ flat-rows u zero h = ap flat (rows-none u)
 flat-rows u (suc n) h =
     let z : suc n ≡ n + 1 = omega arith in
     let w : 3 * n + 3 ≡ 3 * suc n = omega arith in
-    ap (λ k. flat (rowsOf k u)) z ∙ ap flat (rows-next u n) ∙ flat-append (rowsOf n u) (rowIn u n)
+    ap (λ k. flat (rowsOf k u)) z ∙ ap flat (rows-next u n) ∙ flat-append (rowsOf n u) (rowIn u n ∷ [])
     ∙ ap (λ xs. xs ++ (getD u (3 * n) 0 ∷ getD u (3 * n + 1) 0 ∷ getD u (3 * n + 2) 0 ∷ [])) (flat-rows u n (omega arith))
     ∙ sym (take-three u (3 * n) (omega arith)) ∙ ap (λ k. take k u) w
 

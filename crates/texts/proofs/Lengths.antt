@@ -7,10 +7,9 @@ use mathlib.Core.List.{List, [], _∷_, _++_, map}
 use lib.ListN.{length, length-append}
 use lib.Dec.{ltb}
 use borrow.Author.Tests.{ltb-false}
+use Rattle.bitml.specs.Lists.{All, nil, cons}
 use Rattle.bitml.specs.Rows.{Row}
-use Rattle.bitml.specs.Answers.{rowLine, refusedLine, takenLine, eventLine}
-use Rattle.requests.specs.Rows.{rowsOf}
-use Rattle.requests.proofs.Laws.{rows-length}
+use Rattle.bitml.specs.Answers.{rowLine, liquidLine, frozenLine, refusedLine, takenLine, eventLine}
 use Rattle.texts.specs.Wrote.{Wrote}
 use Rattle.texts.specs.Text.{digits, decimal, letters, field, fields, line, lineText, linesText}
 
@@ -64,10 +63,6 @@ pub line-length : (w ns : List ℕ) → length (line w ns) ≡ length w + length
 unfolding line
 line-length w ns = length-append (w ++ fields ns) (10 ∷ []) ∙ ap (λ k. k + 1) (length-append w (fields ns))
 
-pub row-most : (r : Row) → length (lineText (rowLine r)) ≤ 80
-unfolding lineText
-row-most r = let ns = r .node ∷ r .branch ∷ r .rank ∷ [] in omega (arith, line-length (letters "row") ns, fields-most ns)
-
 pub taken-length : length (lineText takenLine) ≡ 6
 unfolding lineText line fields
 taken-length = refl
@@ -92,11 +87,35 @@ unfolding eventLine
 answer-short k zero h l = omega (arith, taken-length)
 answer-short k (suc n) h l = refused-short (suc n) k h l
 
--- Rows, one behind the other
-pub rows-most : (R : List Row) → length (linesText (map rowLine R)) ≤ 80 * length R
-unfolding linesText
-rows-most [] = omega arith
-rows-most (r ∷ R) = omega (arith, length-append (lineText (rowLine r)) (linesText (map rowLine R)), row-most r, rows-most R)
+-- A row of numbers with three digits at the most
+abbrev pub Short : Row → Type 0
+Short r = (r .node ≤ 999) × (r .branch ≤ 999) × (r .rank ≤ 999)
 
-pub rows-room : (k : ℕ) (u : List ℕ) {z b : List ℕ} {a e : ℕ} → Wrote z a (linesText (map rowLine (rowsOf k u))) b e → e ≤ a + 80 * k
-rows-room k u w = omega (arith, w .end, rows-most (rowsOf k u), rows-length k u)
+row-short : (r : Row) → Short r → length (lineText (rowLine r)) ≤ 16
+unfolding lineText fields
+row-short r h =
+    omega (
+      arith,
+      line-length (letters "row") (r .node ∷ r .branch ∷ r .rank ∷ []),
+      fields-length (r .node) (r .branch ∷ r .rank ∷ []),
+      fields-length (r .branch) (r .rank ∷ []),
+      fields-length (r .rank) [],
+      decimal-short 3 (r .node) (omega arith) (omega (arith, h .0)),
+      decimal-short 3 (r .branch) (omega arith) (omega (arith, h .1)),
+      decimal-short 3 (r .rank) (omega arith) (omega (arith, h .2)),
+    )
+
+-- Rows, one behind the other
+pub rows-short : {R : List Row} → All Short R → length (linesText (map rowLine R)) ≤ 16 * length R
+unfolding linesText
+rows-short nil = omega arith
+rows-short (cons {x = r} {xs = R} h k) = omega (arith, length-append (lineText (rowLine r)) (linesText (map rowLine R)), row-short r h, rows-short k)
+
+-- `liquid` or `frozen`, the last line of a verdict
+pub liquid-room : (p n k : ℕ) {z b : List ℕ} {a e : ℕ} → Wrote z a (lineText (liquidLine p n k)) b e → e ≤ a + 80
+unfolding lineText
+liquid-room p n k w = let ns = p ∷ n ∷ k ∷ [] in omega (arith, w .end, line-length (letters "liquid") ns, fields-most ns)
+
+pub frozen-room : (p n : ℕ) {z b : List ℕ} {a e : ℕ} → Wrote z a (lineText (frozenLine p n)) b e → e ≤ a + 80
+unfolding lineText
+frozen-room p n w = let ns = p ∷ n ∷ [] in omega (arith, w .end, line-length (letters "frozen") ns, fields-most ns)

@@ -130,6 +130,12 @@ row-more i u =
     ∙ lines-append (map rowLine (rowsOf i u)) (rowLine (rowIn u i) ∷ [])
     ∙ ap (λ zs. rowsText i u ++ zs) (one-line (rowLine (rowIn u i)))
 
+-- the first rows take no more bytes than all
+pub rows-up : (k i n : ℕ) (u : List ℕ) → n ≡ i + k → length (rowsText i u) ≤ length (rowsText n u)
+rows-up zero i n u e = let z : i ≡ n = omega arith in subst (λ m. length (rowsText i u) ≤ length (rowsText m u)) z (omega arith)
+rows-up (suc k) i n u e =
+    omega (arith, ap (λ xs. length xs) (row-more i u), length-append (rowsText i u) (lineText (rowLine (rowIn u i))), rows-up k (i + 1) n u (omega arith))
+
 pub wrote-no-row : (u : List ℕ) (a : ℕ) (rows : List ℕ) → Wrote u a (rowsText 0 rows) u a
 unfolding linesText
 wrote-no-row u a rows = subst (λ rs. Wrote u a (linesText (map rowLine rs)) u a) (sym (rows-none rows)) (wrote-none u a)

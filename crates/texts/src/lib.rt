@@ -130,7 +130,7 @@ pub fn put_end(out: &mut [u8], at: usize, time: usize, live: usize, paid: &[usiz
 
 // The first n rows of a buffer, three numbers each.
 pub fn put_rows(out: &mut [u8], at: usize, rows: &[usize], n: usize) -> usize
-    requires { ⌜ (at + 80 * n ≤ length (now out)) × (3 * n ≤ length (now rows)) ⌝ }
+    requires { ⌜ (at + length (linesText (map rowLine (rowsOf n (now rows)))) + 80 ≤ length (now out)) × (3 * n ≤ length (now rows)) ⌝ }
     ensures { λ r. ⌜ Wrote (now (out .entry)) at (linesText (map rowLine (rowsOf n (now (rows .entry))))) (now (out .exit)) r ⌝ }
 {
     let mut e = at;

@@ -1,20 +1,25 @@
 -- The text and the rows of a verdict are those of the definition. Assumes nothing.
-use mathlib.Core.Path.{_≡_, sym, ap, ap₂, _∙_, subst}
-use Prim.Native.Nat.{ℕ, suc, _+_, _-_, _*_, _≤_}
+use mathlib.Core.Path.{_≡_, refl, sym, ap, ap₂, _∙_, subst}
+use Prim.Native.Nat.{ℕ, suc, _+_, _-_, _*_, _≤_, _<_}
 use native.Mathlib.Omega.{arith}
 use mathlib.Core.Bool.{Bool, true, false, cond}
 use mathlib.Core.List.{List, [], _∷_, _++_, map}
 use lib.ListN.{length, replicate, length-map}
-use lib.Dec.{eqb}
-use Rattle.bitml.specs.Lists.{ask, keep, below}
-use Rattle.bitml.specs.Sheet.{Sheet, defAt}
+use lib.Dec.{eqb, ltb}
+use borrow.Author.Tests.{lt-ltb}
+use Rattle.bitml.specs.Lists.{ask, keep, below, All, nil}
+use Rattle.bitml.specs.Sheet.{Sheet, defAt, noNode, branchesAt}
 use Rattle.bitml.specs.Rows.{Row, Fault, has, rankOf, orElse, repeated, rowFault, faulty, check}
-use Rattle.bitml.specs.Rule.{Verdict, liquid, frozen, verdict, stuck, rows, rowFor, reached, make}
-use Rattle.bitml.proofs.Lists.{length-up}
-use Rattle.bitml.specs.Answers.{rowLine, liquidLine, frozenLine, refused, printed, liquidBy, making, madeBy, checkedBy, answer}
-use Rattle.tables.specs.Entries.{held, people}
-use Rattle.tables.specs.SheetOf.{sheetIn}
-use Rattle.tables.proofs.SheetOf.{keep-le, root-is, nodes-are}
+use Rattle.bitml.specs.Rule.{Verdict, liquid, frozen, verdict, stuck, rows, rowFor, rankAt, reached, make}
+use Rattle.bitml.specs.Demands.{Best}
+use Rattle.bitml.proofs.Demands.{demands}
+use Rattle.bitml.proofs.Lists.{length-up, all-map, all-mem, all-both, in-range}
+use Rattle.bitml.specs.Answers.{rowLine, liquidLine, frozenLine, refused, printed, liquidBy, making, madeLines, madeRows, madeBy, checkedBy, answer}
+use Rattle.tables.specs.Entries.{Entries, held, people}
+use Rattle.tables.specs.SheetOf.{sheetOf, sheetIn}
+use Rattle.tables.proofs.SheetOf.{keep-le, root-is, nodes-are, count-of}
+use Rattle.reader.specs.Promises.{Promises}
+use Rattle.reader.proofs.Formed.{well-formed, ranks-small}
 use Rattle.requests.specs.Rows.{rowsOf}
 use Rattle.sheets.specs.Ready.{Ready}
 use Rattle.exits.specs.Made.{filled, answerOf, bufferOf}
@@ -26,6 +31,7 @@ use Rattle.texts.specs.Text.{lineText, linesText}
 use Rattle.texts.specs.Wrote.{Wrote}
 use Rattle.texts.proofs.Writing.{wrote-then}
 use Rattle.texts.proofs.Texts.{lines-append, one-line}
+use Rattle.texts.proofs.Lengths.{Short, rows-short}
 use Rattle.replies.specs.declared.Reply.{Reply}
 use Rattle.replies.specs.Answer.{Gives}
 use Rattle.replies.proofs.Giving.{gives-printed, gives-refused}
@@ -36,6 +42,12 @@ told k = record { number = 0; line = 0; field = 0; length = k }
 -- node 0 is the root of definition 0
 pub root-first : (t : List ℕ) → Ready t → defAt (sheetIn t) 0 .root ≡ 0
 root-first t ok = root-is (people t) (held t) 0 (ok .promises .limits .defs .0) ∙ ok .promises .nesting .start
+
+-- the row buffer of a verdict
+pub buffer-is : (n : ℕ) (v : Verdict) → bufferOf n v ≡ filled n (madeRows v)
+unfolding bufferOf madeRows
+buffer-is n (liquid R) = refl
+buffer-is n (frozen x) = refl
 
 module _ (s : Sheet) (p : ℕ) (first : defAt s 0 .root ≡ 0) where
   -- the last line of a liquid sheet
@@ -51,55 +63,33 @@ module _ (s : Sheet) (p : ℕ) (first : defAt s 0 .root ≡ 0) where
   made-lines : (R : List Row) → linesText (map rowLine R) ++ linesText (liquidBy s p R ∷ []) ≡ linesText (map rowLine R ++ (liquidBy s p R ∷ []))
   made-lines R = sym (lines-append (map rowLine R) (liquidBy s p R ∷ []))
 
+  -- ---- the lines of the verdict that was found, from position a on
+
+  pub made-liquid : (v : Verdict) (n : ℕ) (u z b b′ : List ℕ) (a e k count rank : ℕ) → 3 * count ≤ n → Liquid count rank ≡ answerOf v → u ≡ bufferOf n v
+      → Wrote z a (linesText (map rowLine (rowsOf count u))) b e → Wrote b e (lineText (liquidLine p count rank)) b′ k
+      → Wrote z a (linesText (madeLines s p v)) b′ k
+  unfolding answerOf bufferOf madeLines
+  made-liquid (liquid R) n u z b b′ a e k count rank h l f w x =
+      let c : count ≡ length R = cc in
+      let r : rank ≡ rankOf R 0 = cc in
+      let g : rowsOf count u ≡ R = ap₂ rowsOf c f ∙ rows-filled n R (omega arith) in
+      let y : lineText (liquidLine p count rank) ≡ linesText (liquidBy s p R ∷ []) = ap₂ (λ i j. lineText (liquidLine p i j)) c r ∙ ap lineText (line-is R) ∙ sym (one-line (liquidBy s p R)) in
+      subst (λ xs. Wrote z a xs b′ k) (ap₂ (λ Q xs. linesText (map rowLine Q) ++ xs) g y ∙ made-lines R) (wrote-then w x)
+  made-liquid (frozen y) n u z b b′ a e k count rank h l f w x = let q : _≡_ {A = ℕ} 0 1 = cc in absurd (omega arith)
+
+  pub made-frozen : (v : Verdict) (z b : List ℕ) (a k node : ℕ) → Frozen node ≡ answerOf v → Wrote z a (lineText (frozenLine p node)) b k
+      → Wrote z a (linesText (madeLines s p v)) b k
+  unfolding answerOf madeLines
+  made-frozen (liquid R) z b a k node l w = let q : _≡_ {A = ℕ} 0 1 = cc in absurd (omega arith)
+  made-frozen (frozen x) z b a k node l w =
+      let c : node ≡ x = cc in
+      subst (λ xs. Wrote z a xs b k) (ap (λ i. lineText (frozenLine p i)) c ∙ sym (one-line (frozenLine p x))) w
+
   module _ (n m : ℕ) (u z : List ℕ) (clear : z ≡ replicate m 0) where
-    liquid-gives : (R : List Row) (b b′ : List ℕ) (e k count rank : ℕ) → 3 * length R ≤ n → Liquid count rank ≡ answerOf (liquid R) → u ≡ bufferOf n (liquid R)
-        → Wrote z 0 (linesText (map rowLine (rowsOf count u))) b e → Wrote b e (lineText (liquidLine p count rank)) b′ k
-        → Gives (madeBy s p (liquid R)) n m (told k) u b′
-    unfolding answerOf bufferOf linesText madeBy
-    liquid-gives R b b′ e k count rank h l f w x =
-        let c : count ≡ length R = cc in
-        let r : rank ≡ rankOf R 0 = cc in
-        let g : rowsOf count u ≡ R = ap₂ rowsOf c f ∙ rows-filled n R h in
-        let y : lineText (liquidLine p count rank) ≡ linesText (liquidBy s p R ∷ []) = ap₂ (λ i j. lineText (liquidLine p i j)) c r ∙ ap lineText (line-is R) ∙ sym (one-line (liquidBy s p R)) in
-        gives-printed (map rowLine R ++ (liquidBy s p R ∷ [])) R n m k u z b′ clear
-        (subst (λ xs. Wrote z 0 xs b′ k) (ap₂ (λ Q xs. linesText (map rowLine Q) ++ xs) g y ∙ made-lines R) (wrote-then w x))
-        f
-
-    frozen-gives : (x : ℕ) (b : List ℕ) (k node : ℕ) → Frozen node ≡ answerOf (frozen x) → u ≡ bufferOf n (frozen x)
-        → Wrote z 0 (lineText (frozenLine p node)) b k → Gives (madeBy s p (frozen x)) n m (told k) u b
-    unfolding answerOf bufferOf madeBy linesText
-    frozen-gives x b k node l f w =
-        let c : node ≡ x = cc in
-        gives-printed (frozenLine p x ∷ []) [] n m k u z b clear
-        (subst (λ xs. Wrote z 0 xs b k) (ap (λ i. lineText (frozenLine p i)) c ∙ sym (one-line (frozenLine p x))) w)
-        f
-
-    -- by the verdict that was found
-    verdict-liquid : (v : Verdict) (b b′ : List ℕ) (e k count rank : ℕ) → 3 * count ≤ n → Liquid count rank ≡ answerOf v → u ≡ bufferOf n v
-        → Wrote z 0 (linesText (map rowLine (rowsOf count u))) b e → Wrote b e (lineText (liquidLine p count rank)) b′ k
-        → Gives (madeBy s p v) n m (told k) u b′
-    unfolding answerOf
-    verdict-liquid (liquid R) b b′ e k count rank h l f w x =
-        let c : count ≡ length R = cc in
-        liquid-gives R b b′ e k count rank (omega arith) l f w x
-    verdict-liquid (frozen y) b b′ e k count rank h l f w x = let q : _≡_ {A = ℕ} 0 1 = cc in absurd (omega arith)
-
-    verdict-frozen : (v : Verdict) (b : List ℕ) (k node : ℕ) → Frozen node ≡ answerOf v → u ≡ bufferOf n v
-        → Wrote z 0 (lineText (frozenLine p node)) b k → Gives (madeBy s p v) n m (told k) u b
-    unfolding answerOf
-    verdict-frozen (liquid R) b k node l f w = let q : _≡_ {A = ℕ} 0 1 = cc in absurd (omega arith)
-    verdict-frozen (frozen x) b k node l f w = frozen-gives x b k node l f w
-
-    pub make-liquid : (b b′ : List ℕ) (e k count rank : ℕ) → 3 * count ≤ n → Liquid count rank ≡ answerOf (make s p) → u ≡ bufferOf n (make s p)
-        → Wrote z 0 (linesText (map rowLine (rowsOf count u))) b e → Wrote b e (lineText (liquidLine p count rank)) b′ k
-        → Gives (answer (making s p)) n m (told k) u b′
-    unfolding answer
-    make-liquid = verdict-liquid (make s p)
-
-    pub make-frozen : (b : List ℕ) (k node : ℕ) → Frozen node ≡ answerOf (make s p) → u ≡ bufferOf n (make s p)
-        → Wrote z 0 (lineText (frozenLine p node)) b k → Gives (answer (making s p)) n m (told k) u b
-    unfolding answer
-    make-frozen = verdict-frozen (make s p)
+    pub make-gives : (b : List ℕ) (k : ℕ) → u ≡ bufferOf n (make s p) → Wrote z 0 (linesText (madeLines s p (make s p))) b k
+        → Gives (answer (making s p)) n m (told k) u b
+    unfolding answer madeBy
+    make-gives b k f w = gives-printed (madeLines s p (make s p)) (madeRows (make s p)) n m k u z b clear w (f ∙ buffer-is n (make s p))
 
     pub check-liquid : (R : List Row) (f : Fault) (b : List ℕ) (k count rank : ℕ) → checked.Liquid count rank ≡ answerOfRows R f → u ≡ bufferOfRows n R f
         → Wrote z 0 (lineText (liquidLine p count rank)) b k → Gives (checkedBy s p R f) n m (told k) u b
@@ -131,28 +121,75 @@ module _ (s : Sheet) (p : ℕ) (first : defAt s 0 .root ≡ 0) where
             let e : place ≡ f .place = cc in
             rw (← c, ← e, ← d) (gives-refused n m number (defs + 2 + place) 0 u z clear g)
 
+-- ---- how much a verdict takes
+
 -- there are no more rows than nodes
-rows-few : (s : Sheet) (p count rank : ℕ) → Liquid count rank ≡ answerOf (liquid (rows s p)) → count ≤ length (s .nodes)
-unfolding answerOf rows
-rows-few s p count rank l =
+rows-few : (s : Sheet) (p : ℕ) → length (rows s p) ≤ length (s .nodes)
+unfolding rows
+rows-few s p =
     let ns = keep (reached s) (below (length (s .nodes))) in
-    let c : count ≡ length (map (rowFor s p) ns) = cc in
-    omega (arith, c, length-map ns (rowFor s p), keep-le (reached s) (below (length (s .nodes))), length-up 0 (length (s .nodes)))
+    omega (arith, length-map ns (rowFor s p), keep-le (reached s) (below (length (s .nodes))), length-up 0 (length (s .nodes)))
 
-no-rows : (x : ℕ) (Q : Type 0) (count rank : ℕ) → Liquid count rank ≡ answerOf (frozen x) → Q
-unfolding answerOf
-no-rows x Q count rank l = let q : _≡_ {A = ℕ} 0 1 = cc in absurd (omega arith)
-
-made-few : (s : Sheet) (p count rank : ℕ) → Liquid count rank ≡ answerOf (make s p) → count ≤ length (s .nodes)
-unfolding make
-made-few s p count rank l = go (stuck s p) l
+-- what holds of no rows and of the published ones holds of those that are made
+made-rows : (Q : List Row → Type 0) (s : Sheet) (p : ℕ) → Q [] → (make s p ≡ liquid (rows s p) → Q (rows s p)) → Q (madeRows (make s p))
+unfolding make madeRows
+made-rows Q s p none some = go (stuck s p) refl
   where
-    go : (ns : List ℕ) → Liquid count rank ≡ answerOf (verdict ns (rows s p)) → count ≤ length (s .nodes)
-    go [] l = rows-few s p count rank l
-    go (x ∷ ns) l = no-rows x (count ≤ length (s .nodes)) count rank l
+    go : (ns : List ℕ) → stuck s p ≡ ns → Q (madeRows (verdict ns (rows s p)))
+    go [] e = some (ap (λ ns. verdict ns (rows s p)) e)
+    go (x ∷ ns) e = none
+
+pub made-few : (K : ℕ) (E : Entries) → Promises K E → (p : ℕ) → length (madeRows (make (sheetOf K E) p)) ≤ 512
+made-few K E ok p =
+    made-rows (λ R. length R ≤ 512) (sheetOf K E) p (omega arith) λ e. omega (arith, rows-few (sheetOf K E) p, nodes-are K E, ok .limits .nodes)
 
 pub made-count : (t : List ℕ) → Ready t → (p count rank : ℕ) → Liquid count rank ≡ answerOf (make (sheetIn t) p) → count ≤ 512
-made-count t ok p count rank l = omega (arith, made-few (sheetIn t) p count rank l, nodes-are (people t) (held t), ok .promises .limits .nodes)
+unfolding answerOf madeRows
+made-count t ok p count rank l = omega (arith, counted (make (sheetIn t) p) l, made-few (people t) (held t) (ok .promises) p)
+  where
+    counted : (v : Verdict) → Liquid count rank ≡ answerOf v → count ≡ length (madeRows v)
+    counted (liquid R) l = cc
+    counted (frozen x) l = let q : _≡_ {A = ℕ} 0 1 = cc in absurd (omega arith)
+
+-- a published row has numbers of three digits at the most
+module _ (t : List ℕ) (ok : Ready t) (p : ℕ) where
+  abbrev S : Sheet
+  S = sheetIn t
+
+  best-short : (R : List Row) (r : Row) → Best S p (rankOf R) r → r .rank ≡ rankAt S p (r .node) → Short r
+  best-short R r b e =
+      let there = b .serves .there in
+      let some : 0 < length (branchesAt S (r .node)) = omega arith in
+      let inside : r .node < length (S .nodes) = in-range (λ nd. ltb 0 (length (nd .branches))) (S .nodes) (r .node) noNode refl (lt-ltb 0 _ some) in
+      let n : r .node < length (held t .nodes) = omega (arith, nodes-are (people t) (held t)) in (
+        omega (arith, ok .promises .limits .nodes),
+        omega (arith, there, count-of (people t) (held t) (r .node) n, ok .promises .node (r .node) n .few),
+        omega (arith, e, ranks-small (people t) (held t) (ok .promises) p (r .node), ok .promises .limits .nodes),
+      )
+
+  rows-ranked : All (λ r. r .rank ≡ rankAt S p (r .node)) (rows S p)
+  unfolding rows rowFor
+  rows-ranked =
+      let ns = keep (reached S) (below (length (S .nodes))) in
+      all-map (rowFor S p) (all-mem (λ n. rowFor S p n .rank ≡ rankAt S p (rowFor S p n .node)) ns λ n h. refl)
+
+  pub made-short : All Short (madeRows (make S p))
+  made-short = made-rows (All Short) S p nil λ e.
+      all-both (best-short (rows S p)) (demands .make-is-published S (well-formed (people t) (held t) (ok .promises)) p (rows S p) .0 e .each) rows-ranked
+
+  -- the rows that stand in the buffer, as they are printed
+  pub rows-room : (n : ℕ) (u : List ℕ) (count rank : ℕ) → 1536 ≤ n → Liquid count rank ≡ answerOf (make S p) → u ≡ bufferOf n (make S p)
+      → length (linesText (map rowLine (rowsOf count u))) ≤ 8192
+  unfolding answerOf bufferOf madeRows
+  rows-room n u count rank h l f = go (make S p) l f (made-short) (made-few (people t) (held t) (ok .promises) p)
+    where
+      go : (v : Verdict) → Liquid count rank ≡ answerOf v → u ≡ bufferOf n v → All Short (madeRows v) → length (madeRows v) ≤ 512
+          → length (linesText (map rowLine (rowsOf count u))) ≤ 8192
+      go (liquid R) l f a few =
+          let c : count ≡ length R = cc in
+          let g : rowsOf count u ≡ R = ap₂ rowsOf c f ∙ rows-filled n R (omega arith) in
+          rw g (omega (arith, rows-short a))
+      go (frozen x) l f a few = let q : _≡_ {A = ℕ} 0 1 = cc in absurd (omega arith)
 
 -- ---- where a fault is
 

@@ -39,7 +39,7 @@ unfolding digits
 digits-one zero d h h′ = absurd (omega arith)
 digits-one (suc k) d h h′ = let small : ltb d 10 ≡ true = lt-ltb d 10 (omega arith) in rw small
 
-digit-is : (b : ℕ) → isDigit b ≡ true → (zeroDigit ≤ b) × (b ≤ nineDigit)
+pub digit-is : (b : ℕ) → isDigit b ≡ true → (zeroDigit ≤ b) × (b ≤ nineDigit)
 digit-is b e = go (leb zeroDigit b) refl (leb b nineDigit) refl e
   where
     go : (x : Bool) → leb zeroDigit b ≡ x → (y : Bool) → leb b nineDigit ≡ y → (x && y) ≡ true → (zeroDigit ≤ b) × (b ≤ nineDigit)
@@ -47,7 +47,7 @@ digit-is b e = go (leb zeroDigit b) refl (leb b nineDigit) refl e
     go true p false q e = absurd (false≢true e)
     go false p y q e = absurd (false≢true e)
 
-digits-split : (b : ℕ) (t : List ℕ) → allDigits (b ∷ t) ≡ true → (isDigit b ≡ true) × (allDigits t ≡ true)
+pub digits-split : (b : ℕ) (t : List ℕ) → allDigits (b ∷ t) ≡ true → (isDigit b ≡ true) × (allDigits t ≡ true)
 unfolding allDigits
 digits-split b t e = go (isDigit b) refl e
   where

@@ -10,3 +10,4 @@ pub mod Alone
 pub mod Same
 pub mod Printed
 pub mod Claims
+pub mod Numbers

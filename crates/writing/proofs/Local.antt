@@ -15,7 +15,7 @@ use Rattle.fields.specs.declared.Got.{Got}
 use Rattle.fields.specs.declared.Got.the-variants as got
 use Rattle.tables.specs.State.{State}
 use Rattle.steps.specs.Steps.{Outcome, next, bad, toPlace, goOn, either, andThen, times}
-use Rattle.steps.proofs.Ends.{Ends, good, refused, ends-map}
+use Rattle.steps.proofs.Ends.{Ends, good, refused, ends-map, ends-field, ends-then}
 use Rattle.fields.proofs.Ranges.{cond-cases, never}
 use Rattle.writing.proofs.Fields.{comma-is, up-to-is}
 
@@ -34,42 +34,50 @@ module _ (s : List ℕ) where
   unfolding endAt
   end-is p = refl
 
-  -- t has the bytes of s up to n, and what ends there in s ends there in t
+  -- t has the bytes of s up to n, and the one at n: so what ends there in s ends there in t
   pub record Like (t : List ℕ) (n : ℕ) : Type 0 where
-    pub within : n ≤ length s
-    pub long : n ≤ length t
-    pub same : (i : ℕ) → i < n → getD t i 0 ≡ getD s i 0
-    pub stops : fieldLen (drop n t) ≡ 0
+    pub within : n < length s
+    pub long : n < length t
+    pub same : (i : ℕ) → i ≤ n → getD t i 0 ≡ getD s i 0
 
-  -- w says of each text how it is read on from m: s as b, and so each text that is like s up to there
-  pub record Again (m : ℕ) (w : List ℕ → Outcome) (b : State) : Type 0 where
-    pub on : m ≤ b .at
-    pub again : (t : List ℕ) (n : ℕ) → b .at ≤ n → Like t n → w t ≡ next b
+  -- w says of each text how it is read on from m: s as b, and so each text that is like s up to there. j is 1 where what is read
+  -- ends with an LF, since the byte behind that is not looked at, and else 0
+  pub record Again (j m : ℕ) (w : List ℕ → Outcome) (b : State) : Type 0 where
+    pub on : m + j ≤ b .at
+    pub again : (t : List ℕ) (n : ℕ) → b .at ≤ n + j → Like t n → w t ≡ next b
 
+  abbrev pub Reads : ℕ → ℕ → (List ℕ → Outcome) → Type 0
+  Reads j m w = Ends (Again j m w) (w s)
+
+  -- some fields
   abbrev pub A : ℕ → (List ℕ → Outcome) → Type 0
-  A m w = Ends (Again m w) (w s)
+  A m w = Reads 0 m w
+
+  -- the rest of a line, its LF with it
+  abbrev pub L : ℕ → (List ℕ → Outcome) → Type 0
+  L m w = Reads 1 m w
 
   -- a field that is read alike
   abbrev pub Alike : ℕ → (List ℕ → Got) → Type 0
   Alike m g = (v e : ℕ) → g s ≡ got.Value v e → (m ≤ e) × ((t : List ℕ) (n : ℕ) → e ≤ n → Like t n → g t ≡ got.Value v e)
 
   -- each value with what it is read alike by; and where every value is
-  pub a-value : (m : ℕ) (a : State) (g : List ℕ → Got) (k : List ℕ → ℕ → State → Outcome)
+  pub a-value : {j : ℕ} (m : ℕ) (a : State) (g : List ℕ → Got) (k : List ℕ → ℕ → State → Outcome)
       → ((v e : ℕ) → g s ≡ got.Value v e
-      → Ends (λ b. Again e (λ t. k t v (toPlace a e)) b × (m ≤ e) × ((t : List ℕ) (n : ℕ) → e ≤ n → Like t n → g t ≡ got.Value v e)) (k s v (toPlace a e)))
-      → A m (λ t. goOn a (g t) (k t))
+      → Ends (λ b. Again j e (λ t. k t v (toPlace a e)) b × (m ≤ e) × ((t : List ℕ) (n : ℕ) → e ≤ n → Like t n → g t ≡ got.Value v e)) (k s v (toPlace a e)))
+      → Reads j m (λ t. goOn a (g t) (k t))
   unfolding goOn
-  a-value m a g k f = go (g s) refl
+  a-value {j} m a g k f = go (g s) refl
     where
-      go : (r : Got) → g s ≡ r → Ends (Again m (λ t. goOn a (g t) (k t))) (goOn a r (k s))
+      go : (r : Got) → g s ≡ r → Ends (Again j m (λ t. goOn a (g t) (k t))) (goOn a r (k s))
       go (got.Bad n p) q = refused
       go (got.Value v e) q = ends-map (f v e q) λ b x. record {
         on = omega (arith, x .0 .on, x .1);
         again = λ t n i j. ap (λ r. goOn a r (k t)) (x .2 t n (omega (arith, x .0 .on)) j) ∙ x .0 .again t n i j;
       }
 
-  pub a-field : (m : ℕ) (a : State) (g : List ℕ → Got) (k : List ℕ → ℕ → State → Outcome) → Alike m g
-      → ((v e : ℕ) → A e (λ t. k t v (toPlace a e))) → A m (λ t. goOn a (g t) (k t))
+  pub a-field : {j : ℕ} (m : ℕ) (a : State) (g : List ℕ → Got) (k : List ℕ → ℕ → State → Outcome) → Alike m g
+      → ((v e : ℕ) → Reads j e (λ t. k t v (toPlace a e))) → Reads j m (λ t. goOn a (g t) (k t))
   a-field m a g k l f = a-value m a g k λ v e q. ends-map (f v e) λ b x. (x, l v e q .0, l v e q .1)
 
   pub a-test : (m : ℕ) (b : Bool) (x y : List ℕ → Outcome) → A m x → A m y → A m (λ t. either b (x t) (y t))
@@ -77,46 +85,57 @@ module _ (s : List ℕ) where
   a-test m true x y f g = f
   a-test m false x y f g = g
 
-  pub a-then : (m : ℕ) (x : List ℕ → Outcome) (k : List ℕ → State → Outcome) → A m x → ((a : State) → A (a .at) (λ t. k t a)) → A m (λ t. andThen (x t) (k t))
+  pub a-then : {j : ℕ} (m : ℕ) (x : List ℕ → Outcome) (k : List ℕ → State → Outcome) → A m x → ((a : State) → Reads j (a .at) (λ t. k t a))
+      → Reads j m (λ t. andThen (x t) (k t))
   unfolding andThen
-  a-then m x k f g = go (x s) f
+  a-then {j} m x k f g = go (x s) f
     where
-      go : (r : Outcome) → Ends (Again m x) r → Ends (Again m (λ t. andThen (x t) (k t))) (andThen r (k s))
+      go : (r : Outcome) → Ends (Again 0 m x) r → Ends (Again j m (λ t. andThen (x t) (k t))) (andThen r (k s))
       go (bad n p) h = refused
       go (next a) h = ends-map (g a) λ b y. record {
         on = omega (arith, next-is a h .on, y .on);
         again = λ t n i j. ap (λ r. andThen r (k t)) (next-is a h .again t n (omega (arith, y .on)) j) ∙ y .again t n i j;
       }
         where
-          next-is : (a : State) → Ends (Again m x) (next a) → Again m x a
+          next-is : (a : State) → Ends (Again 0 m x) (next a) → Again 0 m x a
           next-is a (good h) = h
 
   pub a-next : (m : ℕ) (a : State) → m ≤ a .at → A m (λ t. next a)
-  a-next m a h = good (record { on = h; again = λ t n i j. refl })
+  a-next m a h = good {a = a} (record { on = omega arith; again = λ t n i j. refl })
 
   pub a-times : (n : ℕ) (k : List ℕ → State → Outcome) → ((a : State) → A (a .at) (λ t. k t a)) → (a : State) → A (a .at) (λ t. times n (k t) a)
   unfolding times
   a-times zero k f a = a-next (a .at) a (omega arith)
   a-times (suc n) k f a = a-then (a .at) (λ t. k t a) (λ t. times n (k t)) (f a) (a-times n k f)
 
+  -- whole lines, one after the other
+  pub a-lines : (n : ℕ) (k : List ℕ → State → Outcome) → ((a : State) → L (a .at) (λ t. k t a)) → (a : State)
+      → Ends (λ b. (a .at ≤ b .at) × ((t : List ℕ) (m : ℕ) → b .at ≤ m + 1 → Like t m → times n (k t) a ≡ next b)) (times n (k s) a)
+  unfolding times andThen
+  a-lines zero k f a = good {a = a} (omega arith, λ t m i j. refl)
+  a-lines (suc n) k f a = ends-then (k s a) (times n (k s)) (f a) λ b x. ends-map (a-lines n k f b) λ c y.
+      (omega (arith, x .on, y .0), λ t m i j. ap (λ r. andThen r (times n (k t))) (x .again t m (omega (arith, y .0)) j) ∙ y .1 t m i j)
+
   -- ---- fields
 
   module _ (t : List ℕ) (n : ℕ) (l : Like t n) where
-    same-drop : (p : ℕ) → p < n → drop p t ≡ getD s p 0 ∷ drop (suc p) t
+    same-drop : (p : ℕ) → p ≤ n → drop p t ≡ getD s p 0 ∷ drop (suc p) t
     same-drop p h = drop-cons t p 0 (omega (arith, l .long)) ∙ ap (λ x. x ∷ drop (suc p) t) (l .same p h)
 
+    -- one byte more, where the rest is read alike if it is looked at
+    same-step : (p : ℕ) → p ≤ n → (suc p + fieldLen (drop (suc p) s) ≤ n → fieldLen (drop (suc p) t) ≡ fieldLen (drop (suc p) s))
+        → p + fieldLen (drop p s) ≤ n → fieldLen (drop p t) ≡ fieldLen (drop p s)
+    same-step p i f h =
+        let b = getD s p 0 in
+        let d : drop p s ≡ b ∷ drop (suc p) s = drop-cons s p 0 (omega (arith, l .within)) in
+        let g : p + fieldLen (b ∷ drop (suc p) s) ≤ n = subst (λ x. p + fieldLen x ≤ n) d h in
+        ap fieldLen (same-drop p i)
+        ∙ len-cons b (drop (suc p) t) (drop (suc p) s) (isSep b) refl (λ k. f (let m = len-more b (drop (suc p) s) k in omega arith))
+        ∙ ap fieldLen (sym d)
+
     same-len : (j p : ℕ) → p + j ≡ n → p + fieldLen (drop p s) ≤ n → fieldLen (drop p t) ≡ fieldLen (drop p s)
-    same-len zero p e h =
-        let z : p ≡ n = omega arith in
-        subst (λ i. fieldLen (drop i t) ≡ fieldLen (drop i s)) (sym z) (l .stops ∙ (let y : 0 ≡ fieldLen (drop n s) = subst (λ i. 0 ≡ fieldLen (drop i s)) z (omega arith) in y))
-    same-len (suc j) p e h =
-        let d : drop p s ≡ getD s p 0 ∷ drop (suc p) s = drop-cons s p 0 (omega (arith, l .within)) in
-        let d′ = same-drop p (omega arith) in
-        ap fieldLen d′ ∙ go (isSep (getD s p 0)) refl (same-len j (suc p) (omega arith)) (subst (λ x. p + fieldLen x ≤ n) d h) ∙ ap fieldLen (sym d)
-      where
-        go : (b : Bool) → isSep (getD s p 0) ≡ b → (suc p + fieldLen (drop (suc p) s) ≤ n → fieldLen (drop (suc p) t) ≡ fieldLen (drop (suc p) s))
-            → p + fieldLen (getD s p 0 ∷ drop (suc p) s) ≤ n → fieldLen (getD s p 0 ∷ drop (suc p) t) ≡ fieldLen (getD s p 0 ∷ drop (suc p) s)
-        go b q f h = len-cons (getD s p 0) (drop (suc p) t) (drop (suc p) s) b q λ k. f (let m = len-more (getD s p 0) (drop (suc p) s) (q ∙ k) in omega arith)
+    same-len zero p e = same-step p (omega arith) (λ i. absurd (omega arith))
+    same-len (suc j) p e = same-step p (omega arith) (same-len j (suc p) (omega arith))
 
     same-take : (j p : ℕ) → p + j ≤ n → take j (drop p t) ≡ take j (drop p s)
     same-take zero p h = refl
@@ -136,7 +155,7 @@ module _ (s : List ℕ) where
     same-comma : (at : ℕ) (g : Got) → at < n → getD s at 0 ≡ comma → afterComma t at g ≡ g
     same-comma at g h e =
         let x : ltb at (length t) ≡ true = lt-ltb at (length t) (omega (arith, l .long)) in
-        let y : eqb (getD t at 0) comma ≡ true = eq-eqb (getD t at 0) comma (l .same at h ∙ e) in
+        let y : eqb (getD t at 0) comma ≡ true = eq-eqb (getD t at 0) comma (l .same at (omega arith) ∙ e) in
         rw (x, y)
 
   pub number-alike : (at max : ℕ) → Alike at (λ t. numberAt t at max)
@@ -164,11 +183,12 @@ module _ (s : List ℕ) where
             same-comma t n l at _ (omega arith) (c .1) ∙ ap₂ (λ x y. got.Value (packedOf y) x) (w .1) (w .0) ∙ c .2,
       )
 
-  pub line-alike : (at : ℕ) → Alike at (λ t. lineEndAt t at)
+  -- an LF, whatever stands behind it
+  pub line-alike : (at v e : ℕ) → lineEndAt s at ≡ got.Value v e → (at + 1 ≤ e) × ((t : List ℕ) (n : ℕ) → e ≤ n + 1 → Like t n → lineEndAt t at ≡ got.Value v e)
   unfolding lineEndAt
   line-alike at v e =
-      cond-cases (λ r. r ≡ got.Value v e → (at ≤ e) × ((t : List ℕ) (n : ℕ) → e ≤ n → Like t n → lineEndAt t at ≡ got.Value v e)) (ltb at (length s)) _ (got.Bad 2 at)
-      (λ h. cond-cases (λ r. r ≡ got.Value v e → (at ≤ e) × ((t : List ℕ) (n : ℕ) → e ≤ n → Like t n → lineEndAt t at ≡ got.Value v e)) (eqb (getD s at 0) lf) (got.Value 0 (at + 1)) (got.Bad 9 at)
+      cond-cases Q (ltb at (length s)) _ (got.Bad 2 at)
+      (λ h. cond-cases Q (eqb (getD s at 0) lf) (got.Value 0 (at + 1)) (got.Bad 9 at)
       (λ q r.
       let z : at + 1 ≡ e = cc in (
         omega arith,
@@ -179,6 +199,14 @@ module _ (s : List ℕ) where
       ))
       (λ q r. never 9 at v e r))
       (λ h r. never 2 at v e r)
+    where
+      Q : Got → Type 0
+      Q r = r ≡ got.Value v e → (at + 1 ≤ e) × ((t : List ℕ) (n : ℕ) → e ≤ n + 1 → Like t n → lineEndAt t at ≡ got.Value v e)
+
+  pub a-line : (a : State) → L (a .at) (λ t. goOn a (lineEndAt t (a .at)) λ v b. next b)
+  unfolding goOn
+  a-line a = ends-field a _ _ λ v e q. let l = line-alike (a .at) v e q in
+      good (record { on = l .0; again = λ t n i j. ap (λ r. goOn a r λ v b. next b) (l .1 t n i j) })
 
   some-len : (p : ℕ) → (packedOf (textAt s p) ≡ 0 → ⊥) → 1 ≤ fieldLen (drop p s)
   unfolding textAt packedOf

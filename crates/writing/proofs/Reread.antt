@@ -17,7 +17,7 @@ use Rattle.conditions.specs.Condition.{storeAt, constantAt, clausesAt, secretAt
 use Rattle.contracts.specs.declared.Limits.{Limits}
 use Rattle.contracts.specs.Contract.{cWord, wWord, sWord, rWord, gWord, action, ContractReader, holdAt, leafAt, weighedAt, splitAt, listAt, openAt, revealAt, contractWith, actionAt, readBranch, insideAt, readContract}
 use Rattle.lines.specs.Definition.{within, depositsAt, ownerAt, rootAt, ownedAt, defineAt}
-use Rattle.writing.proofs.Local.{A, a-field, a-test, a-then, a-next, a-times, a-value, number-alike, word-alike, line-alike, first-alike}
+use Rattle.writing.proofs.Local.{Reads, A, L, a-field, a-test, a-then, a-next, a-times, a-value, a-line, number-alike, word-alike, first-alike}
 
 pub test-yes : (b : Bool) (x y : Outcome) → b ≡ true → either b x y ≡ x
 unfolding either
@@ -25,7 +25,7 @@ test-yes true x y e = refl
 test-yes false x y e = absurd (false≢true e)
 
 module _ (s : List ℕ) where
-  a-number : (a : State) (max : ℕ) (k : List ℕ → ℕ → State → Outcome) → ((v e : ℕ) → A s e (λ t. k t v (toPlace a e))) → A s (a .at) (λ t. goOn a (numberAt t (a .at) max) (k t))
+  a-number : {j : ℕ} (a : State) (max : ℕ) (k : List ℕ → ℕ → State → Outcome) → ((v e : ℕ) → Reads s j e (λ t. k t v (toPlace a e))) → Reads s j (a .at) (λ t. goOn a (numberAt t (a .at) max) (k t))
   a-number a max k f = a-field s (a .at) a (λ t. numberAt t (a .at) max) k (number-alike s (a .at) max) f
 
   a-word : (a : State) (k : List ℕ → ℕ → State → Outcome) → ((v e : ℕ) → A s e (λ t. k t v (toPlace a e))) → A s (a .at) (λ t. goOn a (wordAt t (a .at)) (k t))
@@ -146,19 +146,18 @@ module _ (s : List ℕ) where
   unfolding ownerAt
   a-owner people a = a-number a anyNumber _ λ v e. a-test s e (ltb v people) _ _ (a-next s e (withListed v (toPlace a e)) (omega arith)) refused
 
-  a-root : (z : Limits) (first n : ℕ) (a : State) → A s (a .at) (λ t. rootAt t z first n a)
+  a-root : (z : Limits) (first n : ℕ) (a : State) → L s (a .at) (λ t. rootAt t z first n a)
   unfolding rootAt
   a-root z first n a = a-then s (a .at) (λ t. readContract t (within z n (length (a .defs))) 32 1024 0 (withDef (defEntry (length (a .nodes)) first n) a))
       (λ t a₁. goOn a₁ (lineEndAt t (a₁ .at)) λ v a₂. next a₂)
-      (a-contract (within z n (length (a .defs))) 32 1024 0 (withDef (defEntry (length (a .nodes)) first n) a)) λ a₁.
-      a-field s (a₁ .at) a₁ (λ t. lineEndAt t (a₁ .at)) (λ t v a₂. next a₂) (line-alike s (a₁ .at)) λ v e. a-next s e (toPlace a₁ e) (omega arith)
+      (a-contract (within z n (length (a .defs))) 32 1024 0 (withDef (defEntry (length (a .nodes)) first n) a)) (a-line s)
 
-  a-owned : (z : Limits) (first : ℕ) (a : State) → A s (a .at) (λ t. ownedAt t z first a)
+  a-owned : (z : Limits) (first : ℕ) (a : State) → L s (a .at) (λ t. ownedAt t z first a)
   unfolding ownedAt
   a-owned z first a = a-number a 8 _ λ n e. a-then s e (λ t. times n (ownerAt t (z .people)) (toPlace a e)) (λ t. rootAt t z first n)
       (a-times s n (λ t. ownerAt t (z .people)) (a-owner (z .people)) (toPlace a e)) (a-root z first n)
 
-  pub a-define : (z : Limits) (a : State) → A s (a .at) (λ t. defineAt t z a)
+  pub a-define : (z : Limits) (a : State) → L s (a .at) (λ t. defineAt t z a)
   unfolding defineAt
   a-define z a = a-value s (a .at) a (λ t. firstAt t (a .at)) _ λ w e q. ends-test _ _ _
       (λ k. ends-map (a-then s e (λ t. depositsAt t 0 (z .people) (toPlace a e)) (λ t. ownedAt t z (length (a .listed))) (a-deposits 0 (z .people) (toPlace a e)) (a-owned z (length (a .listed)))) λ b x.

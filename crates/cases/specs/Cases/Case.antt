@@ -3,14 +3,14 @@ use Prim.Native.Nat.{ℕ, zero, suc}
 use mathlib.Core.List.{List, [], _∷_, _++_}
 use Rattle.texts.specs.Text.{letters}
 use Rattle.replies.specs.Answer.{leastText}
-use Rattle.checker.specs.Entry.{answerTo, textIn}
+use Rattle.checker.specs.Entry.{placesOfAll, answerTo, textIn}
 
 abbrev pub Case : Type 0
 Case = List ℕ × List ℕ
 
--- what the program prints for a request: it has places for 512 rows and 180,224 bytes of text
+-- what the program prints for a request: it has places for 8,192 rows and 180,224 bytes of text
 unfoldable pub printedFor : List ℕ → List ℕ
-printedFor s = textIn leastText (answerTo s 512 leastText)
+printedFor s = textIn leastText (answerTo s placesOfAll leastText)
 
 -- ---- how texts are written: letters, and
 

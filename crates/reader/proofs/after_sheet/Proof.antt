@@ -24,6 +24,9 @@ last-part-requires c κs = search needs
 enum-known-o : tie.Need-enum-known-o
 enum-known-o c = search needs
 
+enum-told : tie.Need-enum-told
+enum-told c = search needs
+
 enum-known-o-2 : tie.Need-enum-known-o-2
 enum-known-o-2 c = search needs
 
@@ -46,18 +49,22 @@ returns : tie.Need-returns
 unfolding answered fromPart
 returns c = from-sheet _ _ _ (c .before .before .before .before .before .before .before .before .before .pre .1 .0 .1) _ _ _ (c .before .before .before .last-part .ensures) (c .before .o .given .1) refl
 
+returns-2 : tie.Need-returns-2
+unfolding answered fromPart
+returns-2 c = from-sheet _ _ _ (c .before .before .before .before .before .before .before .before .pre .1 .0 .1) _ _ _ (c .before .before .last-part .ensures) (c .enum-told .given .1) refl
+
 same-length : tie.Need-same-length
 same-length c = search needs
 
-returns-2 : tie.Need-returns-2
-returns-2 c = from-sheet _ _ _ (c .before .before .before .before .before .before .before .before .before .before .before .before .before .pre .1 .0 .1) _ _ _ (c .before .before .before .before .before .before .before .last-part .ensures) (c .before .before .before .before .before .o2 .given .1) (c .before .before .check-part .ensures)
-
 returns-3 : tie.Need-returns-3
-returns-3 c = from-sheet _ _ _ (c .before .before .before .before .before .before .before .before .before .before .pre .1 .0 .1) _ _ _ (c .before .before .before .before .last-part .ensures) (c .before .before .o3 .given .1) (c .play-part .ensures _ _ refl)
+returns-3 c = from-sheet _ _ _ (c .before .before .before .before .before .before .before .before .before .before .before .before .before .pre .1 .0 .1) _ _ _ (c .before .before .before .before .before .before .before .last-part .ensures) (c .before .before .before .before .before .o2 .given .1) (c .before .before .check-part .ensures)
 
 returns-4 : tie.Need-returns-4
+returns-4 c = from-sheet _ _ _ (c .before .before .before .before .before .before .before .before .before .before .pre .1 .0 .1) _ _ _ (c .before .before .before .before .last-part .ensures) (c .before .before .o3 .given .1) (c .play-part .ensures _ _ refl)
+
+returns-5 : tie.Need-returns-5
 unfolding fromPart
-returns-4 c = from-sheet _ _ _ (c .before .before .before .before .before .before .before .before .before .before .pre .1 .0 .1) _ _ _ (c .before .before .before .before .last-part .ensures) (c .before .before .o4 .given .1) (c .refuse .ensures _ _)
+returns-5 c = from-sheet _ _ _ (c .before .before .before .before .before .before .before .before .before .before .pre .1 .0 .1) _ _ _ (c .before .before .before .before .last-part .ensures) (c .before .before .o4 .given .1) (c .refuse .ensures _ _)
 
 pub after-sheet-spec : {M : Type 1} → statement M
 after-sheet-spec =
@@ -69,6 +76,7 @@ after-sheet-spec =
     shared-slice-read-secrets
     last-part-requires
     enum-known-o
+    enum-told
     enum-known-o-2
     check-part-requires
     enum-known-o-3
@@ -76,7 +84,8 @@ after-sheet-spec =
     enum-known-o-4
     refuse-requires
     returns
-    same-length
     returns-2
+    same-length
     returns-3
-    returns-4)
+    returns-4
+    returns-5)

@@ -14,6 +14,9 @@ enum-known-g c = search needs
 make-part-requires : tie.Need-make-part-requires
 make-part-requires c κs = search needs
 
+make-all-part-requires : tie.Need-make-all-part-requires
+make-all-part-requires c κs = search needs
+
 check-part-requires : tie.Need-check-part-requires
 check-part-requires c κs = search needs
 
@@ -29,19 +32,23 @@ returns c = rw (← c .before .before .before .before .before .first .ensures, c
 
 returns-2 : tie.Need-returns-2
 unfolding lastPartAt whenRead
-returns-2 c = rw (← c .before .before .before .before .before .first .ensures, c .before .before .before .g .given .1, c .before .match2 .keys2, ← c .check-part .ensures)
+returns-2 c = rw (← c .before .before .before .before .before .first .ensures, c .before .before .before .g .given .1, c .before .match2 .keys2, ← c .make-all-part .ensures)
 
 returns-3 : tie.Need-returns-3
 unfolding lastPartAt whenRead
-returns-3 c = rw (← c .before .before .before .before .before .first .ensures, c .before .before .before .g .given .1, c .before .match2 .keys3, ← c .play-part .ensures)
+returns-3 c = rw (← c .before .before .before .before .before .first .ensures, c .before .before .before .g .given .1, c .before .match2 .keys3, ← c .check-part .ensures)
 
 returns-4 : tie.Need-returns-4
 unfolding lastPartAt whenRead
-returns-4 c = rw (← c .before .before .before .before .first .ensures, c .before .before .g .given .1, ne-eqb _ _ (c .match2 .rest .0 .0 .1), ne-eqb _ _ (c .match2 .rest .0 .1), ne-eqb _ _ (c .match2 .rest .1))
+returns-4 c = rw (← c .before .before .before .before .before .first .ensures, c .before .before .before .g .given .1, c .before .match2 .keys4, ← c .play-part .ensures)
 
 returns-5 : tie.Need-returns-5
 unfolding lastPartAt whenRead
-returns-5 c = rw (← c .before .before .before .first .ensures, c .before .g2 .given .1)
+returns-5 c = rw (← c .before .before .before .before .first .ensures, c .before .before .g .given .1, ne-eqb _ _ (c .match2 .rest .0 .0 .0 .1), ne-eqb _ _ (c .match2 .rest .0 .0 .1), ne-eqb _ _ (c .match2 .rest .0 .1), ne-eqb _ _ (c .match2 .rest .1))
+
+returns-6 : tie.Need-returns-6
+unfolding lastPartAt whenRead
+returns-6 c = rw (← c .before .before .before .first .ensures, c .before .g2 .given .1)
 
 pub last-part-spec : {M : Type 1} → statement M
 last-part-spec =
@@ -50,6 +57,7 @@ last-part-spec =
     first-requires
     enum-known-g
     make-part-requires
+    make-all-part-requires
     check-part-requires
     play-part-requires
     enum-known-g-2
@@ -57,4 +65,5 @@ last-part-spec =
     returns-2
     returns-3
     returns-4
-    returns-5)
+    returns-5
+    returns-6)

@@ -3,21 +3,19 @@ use Prim.Native.Nat.{_+_, _-_, _*_, _≤_}
 use native.Mathlib.Omega.{arith}
 use mathlib.Core.Path.{_≡_, refl, _∙_}
 use lib.ListN.{length}
-use Rattle.requests.specs.Rows.{rowIn}
 use Rattle.texts.specs.Wrote.{Wrote}
-use Rattle.texts.proofs.Texts.{rowsText, wrote-no-row, wrote-row, wrote-rows}
-use Rattle.texts.proofs.Lengths.{row-most}
+use Rattle.texts.proofs.Texts.{rowsText, rows-up, wrote-no-row, wrote-row, wrote-rows}
 use Rattle.texts.proofs.put_rows.Statement.{statement}
 use Rattle.texts.proofs.put_rows.Tie as tie
 
 abbrev Inv-loop : tie.InvT-loop
-Inv-loop out₀ at rows n e₀ i₀ out e i = (i ≤ n) × (e ≤ at + 80 * i) × (length out ≡ length out₀) × Wrote out₀ at (rowsText i rows) out e
+Inv-loop out₀ at rows n e₀ i₀ out e i = (i ≤ n) × (length out ≡ length out₀) × Wrote out₀ at (rowsText i rows) out e
 
 abbrev μ-loop : tie.MeasureT-loop
 μ-loop out₀ at rows n e₀ i₀ out e i = n - i
 
 loop-holds : tie.Need-loop-holds Inv-loop μ-loop
-loop-holds c = (omega arith, omega arith, refl, wrote-no-row _ _ _)
+loop-holds c = (omega arith, refl, wrote-no-row _ _ _)
 
 mul-put-row : tie.Need-mul-put-row Inv-loop μ-loop
 mul-put-row c = search needs
@@ -53,7 +51,7 @@ shared-slice-read-put-row-3 : tie.Need-shared-slice-read-put-row-3 Inv-loop μ-l
 shared-slice-read-put-row-3 c = search needs
 
 put-row-requires : tie.Need-put-row-requires Inv-loop μ-loop
-put-row-requires c κs = search needs
+put-row-requires c κs = let n = c .before .before .before .before .before .before .before .before .args .n in let r = c .before .before .before .before .before .before .before .before .args .rows .now in let l = c .before .before .before .before .before .loop in omega (arith, l .inv .2 .end, rows-up (n - l .i) (l .i) n r (omega arith), c .before .before .before .before .before .before .before .before .pre .0)
 
 add-i : tie.Need-add-i Inv-loop μ-loop
 add-i c = search needs
@@ -62,13 +60,13 @@ loop-less : tie.Need-loop-less Inv-loop μ-loop
 loop-less c = search needs
 
 loop-again : tie.Need-loop-again Inv-loop μ-loop
-loop-again c = let r = c .before .before .before .before .before .before .before .before .before .before .before .args .rows .now in let q = c .before .before .put-row .ensures in (omega arith, omega (arith, q .end, row-most (rowIn r (c .before .before .before .before .before .before .before .before .loop .i))), q .long ∙ c .before .before .before .before .before .before .before .before .loop .inv .2, wrote-row (c .before .before .before .before .before .before .before .before .loop .i) r (c .before .before .before .before .before .before .before .before .loop .inv .3) q)
+loop-again c = let r = c .before .before .before .before .before .before .before .before .before .before .before .args .rows .now in let l = c .before .before .before .before .before .before .before .before .loop in let q = c .before .before .put-row .ensures in (omega arith, q .long ∙ l .inv .1, wrote-row (l .i) r (l .inv .2) q)
 
 same-length : tie.Need-same-length Inv-loop μ-loop
 same-length c = search needs
 
 returns : tie.Need-returns Inv-loop μ-loop
-returns c = wrote-rows (c .before .loop .i) (c .before .before .before .before .args .n) (c .before .before .before .before .args .rows .now) (omega arith) (c .before .loop .inv .3)
+returns c = wrote-rows (c .before .loop .i) (c .before .before .before .before .args .n) (c .before .before .before .before .args .rows .now) (omega arith) (c .before .loop .inv .2)
 
 pub put-rows-spec : {M : Type 1} → statement M
 put-rows-spec =

@@ -15,11 +15,13 @@
 extern "C" {
 #endif
 
-/* The longest request that is read, and the shortest buffers that are enough for the answer to any request. */
+/* The longest request that is read, and the shortest buffers that are enough for the answer to any request but a
+ * `makeall`. */
 #define HURKOXEL_REQUEST_BYTES 65536
 #define HURKOXEL_ROWS 512
 #define HURKOXEL_TEXT_BYTES 180224
-/* The shortest row buffer for `makeall`, in which the rows of participant p begin at HURKOXEL_ROWS * p. */
+/* The shortest row buffer for a `makeall`, in which the rows of participant p begin at HURKOXEL_ROWS * p. Any other word
+ * is served by HURKOXEL_ROWS. */
 #define HURKOXEL_ALL_ROWS 8192
 /* Enough for the line of a refused request. */
 #define HURKOXEL_LINE_BYTES 80
@@ -51,13 +53,16 @@ typedef struct {
  *   1. A request of more than 65,536 bytes gets number 1 at 0,0.
  *   2. A buffer of under 512 rows, or of under 180,224 bytes, gets number 7 at 0,0. Longer ones are fine.
  *   3. The request is read as a whole; its first bad field gets 2 to 9.
- *   4. It is judged. Rows given by `check` that are not accepted get 10 to 13.
+ *   4. It is judged. A `makeall` with under 8,192 rows lent gets number 7 at 0,0; rows given by `check` that are not
+ *      accepted get 10 to 13.
  *
  * Answered: text[0] to text[length - 1] are what the program `judge` prints, with LF after each line and no zero at
  * the end; every byte from text[length] on is zero. After `make` of a liquid sheet the rows stand at rows[0] and on,
  * by rising node, as many as the `liquid` line says; after an accepted `check` they are the rows that were given, in
- * their order. Every row past them is zero. After `frozen` and after a play all rows are zero. An event of a play that
- * is refused (14 to 19) has a line of its own in the text; the request is answered all the same.
+ * their order. Every row past them is zero. After `frozen` and after a play all rows are zero. After `makeall` the rows
+ * of participant p stand from rows[512 * p] on, as many as its `liquid` line says, and up to rows[512 * p + 511] the
+ * others are zero; all 512 are zero where its line is `frozen`, and so are those past the last participant's. An event
+ * of a play that is refused (14 to 19) has a line of its own in the text; the request is answered all the same.
  *
  * Refused: every row and every byte of text is zero, whatever the lengths.
  *

@@ -43,6 +43,9 @@ const NUMBERS: usize = 1536;
 
 const ALL_NUMBERS: usize = 24576;
 
+// The bytes of the line `makeall`, its LF with them.
+const ALL_LINE: usize = 8;
+
 // The fewest bytes for a line of three numbers.
 const LINE: usize = 80;
 
@@ -127,10 +130,10 @@ fn ends_in_all(s: &[u8]) -> bool
     ensures { λ r. ⌜ r ≡ endsInAll (now (s .entry)) ⌝ }
 {
     let n = s.len();
-    if n < 8 {
+    if n < ALL_LINE {
         return false;
     }
-    let g = first(s, n - 8);
+    let g = first(s, n - ALL_LINE);
     match g {
         Got::Value(w, _) => w == MAKEALL,
         Got::Bad(_, _) => false,
@@ -149,11 +152,12 @@ fn wants_all(s: &[u8], room: usize) -> bool
     ends_in_all(s)
 }
 
-// The same for a caller whose rows are structs. They are filled from numbers, of which enough are lent.
+// What `judge_in` gives, for a caller whose rows are structs: they are filled from numbers, of which enough are lent.
 fn judge_rows(s: &[u8], numbers: &mut [usize], rows: &mut [Row], text: &mut [u8]) -> Reply
     requires { ⌜ (512 ≤ length (now rows) → (numbersOfOne ≤ length (now numbers)) × (length (now numbers) ≤ 3 * length (now rows))) ⌝ }
     requires { ⌜ Wide (now s) (length (now rows)) (length (now numbers)) ⌝ }
     ensures { λ r. ⌜ r ≡ replyOf (answerTo (now (s .entry)) (length (now (rows .entry))) (length (now (text .entry)))) ⌝ }
+    ensures { λ r. ⌜ now (numbers .exit) ≡ numbersOf (length (now (numbers .entry))) (answerTo (now (s .entry)) (length (now (rows .entry))) (length (now (text .entry)))) ⌝ }
     ensures { λ r. ⌜ now (rows .exit) ≡ placesOf (length (now (rows .entry))) (answerTo (now (s .entry)) (length (now (rows .entry))) (length (now (text .entry)))) ⌝ }
     ensures { λ r. ⌜ now (text .exit) ≡ bytesOf (length (now (text .entry))) (answerTo (now (s .entry)) (length (now (rows .entry))) (length (now (text .entry)))) ⌝ }
 {

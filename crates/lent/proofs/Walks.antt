@@ -96,6 +96,12 @@ module _ {M : Type 1} (𝓤 : URA M) (H : Heap 𝓤) (A : Atoms 𝓤) (W : Given
       (qed W (raw P ∷ []) ∵ says ! v $ says ! y $ says ! x $ done !)
       (qed W (((raw P ⊛ raw (fact 𝓤 a)) ⊛ raw (fact 𝓤 b)) ∷ raw (fact 𝓤 c) ∷ []) ∵ split ! $ split ! $ frame ! $ frame ! $ frame ! $ done !)
 
+  -- and one more before those
+  before : (P R : SProp 𝓤) (a : Type 0) → a → ent 𝓤 (sep 𝓤 P R) (sep 𝓤 P (sep 𝓤 (fact 𝓤 a) R))
+  before P R a x = via 𝓤 (sep 𝓤 (sep 𝓤 P R) (fact 𝓤 a))
+      (qed W (raw (sep 𝓤 P R) ∷ []) ∵ says ! x $ done !)
+      (qed W ((raw P ⊛ raw R) ∷ raw (fact 𝓤 a) ∷ []) ∵ split ! $ frame ! $ move ! (1 ∷ 0 ∷ []) $ frame ! $ done !)
+
 pub needs-both : {M : Type 1} (𝓤 : URA M) (φ ψ : Type 0) (P : SProp 𝓤) {Q : SProp 𝓤} → (φ → ψ → ent 𝓤 P Q) → ent 𝓤 (sep 𝓤 P (sep 𝓤 (fact 𝓤 φ) (fact 𝓤 ψ))) Q
 needs-both 𝓤 φ ψ P h = via 𝓤 (sep 𝓤 (sep 𝓤 P (fact 𝓤 φ)) (fact 𝓤 ψ)) (assoc′ 𝓤 P (fact 𝓤 φ) (fact 𝓤 ψ)) (needs 𝓤 ψ (sep 𝓤 P (fact 𝓤 φ)) (λ y. needs 𝓤 φ P (λ x. h x y)))
 
@@ -126,12 +132,17 @@ module _ {M : Type 1} {𝓤 : URA M} {H : Heap 𝓤} {A : Atoms 𝓤} {K : Type 
   pub found : K → {E : Env 𝓤 H} {i : ℕ} {st : List PStep} {τ : Ty} {sp : Spot 𝓤 H} → spotOf 𝓤 H E i .0 ≡ τ → Walks K W Γ E (τ, spotOf 𝓤 H E i .1, 0) st sp → Finds K W Γ E (place i st) sp
   found t {E} {i} {st} e w = record { go = λ Kt h. subst (λ (σ : Ty). ent 𝓤 (⋆ 𝓤 H A Γ) (walk 𝓤 H E (σ, spotOf 𝓤 H E i .1, 0) st Kt)) (sym e) (w .go Kt h) }
 
-  -- `says` for two clauses and for three
+  -- `says` for two clauses, for three and for four
   pub says-both : K → {a b : Type 0} {P : SProp 𝓤} → a → b → Step K W Γ (prop P) Γ (prop (sep 𝓤 P (sep 𝓤 (fact 𝓤 a) (fact 𝓤 b))))
   says-both t {a} {b} {P} x y = step (λ s. record { prf = via 𝓤 P (s .prf) (beside₂ 𝓤 H A W P a b x y) })
 
   pub says-all : K → {a b c : Type 0} {P : SProp 𝓤} → a → b → c → Step K W Γ (prop P) Γ (prop (sep 𝓤 P (sep 𝓤 (fact 𝓤 a) (sep 𝓤 (fact 𝓤 b) (fact 𝓤 c)))))
   says-all t {a} {b} {c} {P} x y v = step (λ s. record { prf = via 𝓤 P (s .prf) (beside 𝓤 H A W P a b c x y v) })
+
+  pub says-four : K → {a b c d : Type 0} {P : SProp 𝓤} → a → b → c → d → Step K W Γ (prop P) Γ (prop (sep 𝓤 P (sep 𝓤 (fact 𝓤 a) (sep 𝓤 (fact 𝓤 b) (sep 𝓤 (fact 𝓤 c) (fact 𝓤 d))))))
+  says-four t {a} {b} {c} {d} {P} x y v w =
+      let R = sep 𝓤 (fact 𝓤 b) (sep 𝓤 (fact 𝓤 c) (fact 𝓤 d)) in
+      step (λ s. record { prf = via 𝓤 P (s .prf) (via 𝓤 (sep 𝓤 P R) (beside 𝓤 H A W P b c d y v w) (before 𝓤 H A W P R a x)) })
 
   -- `lit` for a constant whose bound is shown
   pub big : K → {E : Env 𝓤 H} {w : Width} {n : ℕ} → Fits w n → Opd K W Γ E (intBig w n) (vint w n)

@@ -1,42 +1,29 @@
-use native.Mathlib.Omega.{arith}
 use Rattle.checker.proofs.Entry.{few-gives, all-gives}
 use borrow.Author.Needs.{needs}
 use Rattle.checker.proofs.all_for.Statement.{statement}
 use Rattle.checker.proofs.all_for.Tie as tie
-use Rattle.checker.proofs.all_for.Reads as reads
-use Rattle.checker.proofs.all_for.Lts as lts
-use Rattle.replies.proofs.refuse.Reads as refuse-reads
-use Rattle.verdicts.proofs.make_all_for.Reads as make-all-for-reads
 
--- src/lib.rt:78:9
 refuse-requires : tie.Need-refuse-requires
 refuse-requires c κs = search needs
 
--- src/lib.rt:78:9
 same-length : tie.Need-same-length
 same-length c = search needs
 
--- src/lib.rt:78:9
 same-length-2 : tie.Need-same-length-2
 same-length-2 c = search needs
 
--- src/lib.rt:78:9
 returns : tie.Need-returns
 returns c = few-gives _ _ (c .before .before .before .before .before .before .before .if1 .taken) (c .before .before .before .before .refuse .ensures)
 
--- src/lib.rt:80:5
 make-all-for-requires : tie.Need-make-all-for-requires
 make-all-for-requires c κs = (c .before .before .before .before .before .before .pre .0, (c .before .before .before .before .before .before .pre .1 .0 (c .before .before .if1 .left), c .before .before .before .before .before .before .pre .1 .1))
 
--- src/lib.rt:71:1
 same-length-3 : tie.Need-same-length-3
 same-length-3 c = search needs
 
--- src/lib.rt:71:1
 same-length-4 : tie.Need-same-length-4
 same-length-4 c = search needs
 
--- src/lib.rt:71:1
 returns-2 : tie.Need-returns-2
 returns-2 c = all-gives _ _ (c .before .before .before .before .before .before .before .if1 .left) (c .before .before .before .before .make-all-for .ensures)
 

@@ -3,33 +3,24 @@ use Rattle.checker.specs.Lending.{namesAll, endsInAll}
 use borrow.Author.Needs.{needs}
 use Rattle.checker.proofs.ends_in_all.Statement.{statement}
 use Rattle.checker.proofs.ends_in_all.Tie as tie
-use Rattle.checker.proofs.ends_in_all.Reads as reads
-use Rattle.checker.proofs.ends_in_all.Lts as lts
-use Rattle.fields.proofs.first.Reads as first-reads
 
--- src/lib.rt:131:9
 returns : tie.Need-returns
 unfolding endsInAll
 returns c = rw (lt-ltb _ _ (c .if1 .taken))
 
--- src/lib.rt:133:9
 first-requires : tie.Need-first-requires
 first-requires c κs = search needs
 
--- src/lib.rt:135:20
 enum-known-g : tie.Need-enum-known-g
 enum-known-g c = search needs
 
--- src/lib.rt:136:27
 enum-told : tie.Need-enum-told
 enum-told c = search needs
 
--- src/lib.rt:126:1
 returns-2 : tie.Need-returns-2
 unfolding endsInAll namesAll
 returns-2 c = rw (le-ltb _ _ (c .before .before .before .before .if1 .left), ← c .before .before .before .first .ensures, c .before .g .given .1)
 
--- src/lib.rt:126:1
 returns-3 : tie.Need-returns-3
 unfolding endsInAll namesAll
 returns-3 c = rw (le-ltb _ _ (c .before .before .before .if1 .left), ← c .before .before .first .ensures, c .enum-told .given .1)

@@ -50,7 +50,7 @@ use Rattle.lent.proofs.Row as T
 use Rattle.lent.proofs.Row.Laws as T′
 use Rattle.replies.specs.declared.Reply.{Reply}
 use Rattle.bitml.specs.Answers.{Answer}
-use Rattle.replies.specs.Answer.{replyOf, bytesOf}
+use Rattle.replies.specs.Answer.{replyOf, numbersOf, bytesOf}
 use Rattle.replies.proofs.Reply as R
 use Rattle.replies.proofs.Reply.Laws as R′
 use Rattle.checker.specs.Entry.{placesOfAll, answerTo, placesOf}
@@ -235,6 +235,9 @@ module _ {M : Type 1} (𝓤 : URA M) (H : Heap 𝓤) (A : Atoms 𝓤) (W : Given
           qed W ((‵ (flft κ₀ q₀) ⊛ ‵ (flft (α ∷ []) fullShare) ⊛ ‵ (flft κ₁ q₁) ⊛ ‵ (flft κ₂ q₂) ⊛ ‵ ftrue) ∷ ‵ (owns (ShrSlice (named 0) κ₀ u8 ∷ MutSlice (named 1) (α ∷ []) usize ∷ MutSlice (named 2) κ₁ T.the-row ∷ MutSlice (named 3) κ₂ u8 ∷ []) (passed δ) (with α)) ∷ []) ∵
           says-both ! (subst (Few (length ys)) (sym long) few) (subst (Wide s (length ys)) (sym long) wide) $ frame ! $ done !
 
+      abbrev numbers : List ℕ
+      numbers = numbersOf (length zeros) answer
+
       -- the last lists of the request, the numbers, the rows and the text
       abbrev Lists : Type 0
       Lists = Unit {0} × (List ℕ × (List Row × (List ℕ × Unit {0})))
@@ -262,8 +265,8 @@ module _ {M : Type 1} (𝓤 : URA M) (H : Heap 𝓤) (A : Atoms 𝓤) (W : Given
           use2 W (raw (Judge 𝓤 H A at-mem run .pre (to α δ))) (asked α δ) $
           calls-at ! fm (Judge 𝓤 H A at-mem run) known (to α δ) (and-then ! (load ! (from ! (stop !)) (look ! 11 refl)) (and-then ! (load ! (found ! (ty .2) (stop !)) (look ! 7 refl)) (and-then ! (load ! (found ! (ty .4) (stop !)) (look ! 5 refl)) (and-then ! (load ! (found ! (ty .6) (stop !)) (look ! 3 refl)) (no-more !))))) (λ w.
           use1 W (later (some (λ (r : Reply). ((‵ (flft κ₀ q₀) ⊛ ‵ (flft (α ∷ []) fullShare) ⊛ ‵ (flft κ₁ q₁) ⊛ ‵ (flft κ₂ q₂) ⊛ ‵ ftrue) ⊛ ‵ (R.the-row .own r (w ∷ []))) ⊛ raw (ensured 𝓤 H A core.ended (core.clauses 𝓤 H A at-mem run) (κ₀, ((α ∷ []), (κ₁, (κ₂, tt)))) (passed δ) tt r)))) (id⊢ 𝓤 _) $ await ! tt $ pick ! (λ r.
-          split ! $ move ! (1 ∷ []) $ use1 W (some (λ (ws : Lists). ‵ (lasts core.ended (κ₀, ((α ∷ []), (κ₁, (κ₂, tt)))) (passed δ) ws) ⊛ (raw (fact 𝓤 (r ≡ reply)) ⊛ (raw (fact 𝓤 (ws .1 .1 .0 ≡ places)) ⊛ raw (fact 𝓤 (ws .1 .1 .1 .0 ≡ text)))))) (id⊢ 𝓤 _) $ pick ! (λ ws.
-          split ! $ move ! (1 ∷ []) $ split ! $ heard ! (r ≡ reply) (λ e. split ! $ heard ! (ws .1 .1 .0 ≡ places) (λ e₁. heard ! (ws .1 .1 .1 .0 ≡ text) (λ e₂.
+          split ! $ move ! (1 ∷ []) $ use1 W (some (λ (ws : Lists). ‵ (lasts core.ended (κ₀, ((α ∷ []), (κ₁, (κ₂, tt)))) (passed δ) ws) ⊛ (raw (fact 𝓤 (r ≡ reply)) ⊛ (raw (fact 𝓤 (ws .1 .0 ≡ numbers)) ⊛ (raw (fact 𝓤 (ws .1 .1 .0 ≡ places)) ⊛ raw (fact 𝓤 (ws .1 .1 .1 .0 ≡ text))))))) (id⊢ 𝓤 _) $ pick ! (λ ws.
+          split ! $ move ! (1 ∷ []) $ split ! $ heard ! (r ≡ reply) (λ e. split ! $ heard ! (ws .1 .0 ≡ numbers) (λ _. split ! $ heard ! (ws .1 .1 .0 ≡ places) (λ e₁. heard ! (ws .1 .1 .1 .0 ≡ text) (λ e₂.
           fsplit ! $ drop ! $ fsplit ! $ fsplit ! $ move ! (1 ∷ []) $ drop ! $ move ! (1 ∷ []) $ fsplit ! $ fsplit ! $ move ! (1 ∷ []) $ feqL ! (λ k₁. move ! (1 ∷ []) $ fsplit ! $ fsplit ! $ move ! (1 ∷ []) $ feqL ! (λ k₂. move ! (1 ∷ []) $ drop ! $
           move ! (3 ∷ []) $ split ! $ move ! (1 ∷ []) $ peeks ! R.the-row (Is R.the-row) (shows 𝓤 H A R.the-row) r (w ∷ []) (λ is.
           land ! (from ! (stop !)) (init ! 16 refl (reply-typed 𝓤 H A W r w is)) $
@@ -271,7 +274,7 @@ module _ {M : Type 1} (𝓤 : URA M) (H : Heap 𝓤) (A : Atoms 𝓤) (W : Given
           move ! (1 ∷ []) $ split ! $ move ! (1 ∷ []) $ split ! $ lft-end ! tt $ move ! (1 ∷ []) $ split ! $ move ! (1 ∷ []) $ split ! $ move ! (1 ∷ []) $ drop ! $ move ! (2 ∷ 9 ∷ 7 ∷ []) $ use3 W (later (‵ (Arr (mem usize) N .lies (ws .1 .0) here 0))) (slice-back 𝓤 H A W usize (α ∷ []) δ (ws .1 .0) N here 0) $ await ! tt $
           use1 W (‵ (Parts N (ws .1 .0) here 0)) (share-in 𝓤 H A W N (ws .1 .0) here 0) $ use1 W (‵ (froom (tyArray word N) here 0)) (take-out 𝓤 H A W N (ws .1 .0) here) $
           returns-within ! Post out (look ! 17 refl) $ forget ! 13 refl $ forget ! 12 refl $ forget ! 11 refl $ forget ! 10 refl $ forget ! 9 refl $ forget ! 8 refl $ forget ! 17 refl $ forget ! 16 refl $ forget ! 15 refl $ forget ! 14 refl $
-          move ! (4 ∷ 5 ∷ 6 ∷ 1 ∷ 2 ∷ 3 ∷ 7 ∷ 8 ∷ 9 ∷ 10 ∷ 11 ∷ 12 ∷ 13 ∷ 0 ∷ 14 ∷ 15 ∷ 16 ∷ 17 ∷ []) $ k r w (ws .1 .1 .0) (ws .1 .1 .1 .0) (k₁, k₂, e, e₁, e₂))))))))))))
+          move ! (4 ∷ 5 ∷ 6 ∷ 1 ∷ 2 ∷ 3 ∷ 7 ∷ 8 ∷ 9 ∷ 10 ∷ 11 ∷ 12 ∷ 13 ∷ 0 ∷ 14 ∷ 15 ∷ 16 ∷ 17 ∷ []) $ k r w (ws .1 .1 .0) (ws .1 .1 .1 .0) (k₁, k₂, e, e₁, e₂)))))))))))))
 
   -- ---- the call of `wants_all`
   abbrev passed′ : RefT (List ℕ) × (ℕ × Unit {0})

@@ -3,45 +3,31 @@ use Rattle.checker.proofs.Entry.{answer-early, answer-judged}
 use borrow.Author.Needs.{needs}
 use Rattle.checker.proofs.judge_in.Statement.{statement}
 use Rattle.checker.proofs.judge_in.Tie as tie
-use Rattle.checker.proofs.judge_in.Reads as reads
-use Rattle.checker.proofs.judge_in.Lts as lts
-use Rattle.checker.proofs.early.Reads as early-reads
-use Rattle.checker.proofs.judged.Reads as judged-reads
-use Rattle.replies.proofs.refuse.Reads as refuse-reads
 
--- src/lib.rt:108:9
 early-requires : tie.Need-early-requires
 early-requires c κs = search needs
 
--- src/lib.rt:110:9
 refuse-requires : tie.Need-refuse-requires
 refuse-requires c κs = search needs
 
--- src/lib.rt:110:9
 same-length : tie.Need-same-length
 same-length c = search needs
 
--- src/lib.rt:110:9
 same-length-2 : tie.Need-same-length-2
 same-length-2 c = search needs
 
--- src/lib.rt:110:9
 returns : tie.Need-returns
 returns c = let g = answer-early (c .before .before .before .before .before .before .before .before .before .before .before .before .args .s .now) (c .before .before .before .before .before .before .before .before .before .before .before .before .args .room) _ _ _ _ _ _ (c .before .before .before .before .before .before .before .before .early .ensures .0) (c .before .before .before .before .before .before .before .if1 .taken) (c .before .before .before .before .refuse .ensures) in (g .reply, (g .rows, g .text))
 
--- src/lib.rt:112:5
 judged-requires : tie.Need-judged-requires
 judged-requires c κs = let k = c .before .before .before .early .ensures .1 (c .before .before .if1 .left) in ((omega (arith, k), c .before .before .before .before .before .before .before .pre .0 (k .1), omega (arith, k)), c .before .before .before .before .before .before .before .pre .1)
 
--- src/lib.rt:101:1
 same-length-3 : tie.Need-same-length-3
 same-length-3 c = search needs
 
--- src/lib.rt:101:1
 same-length-4 : tie.Need-same-length-4
 same-length-4 c = search needs
 
--- src/lib.rt:101:1
 returns-2 : tie.Need-returns-2
 returns-2 c = let g = answer-judged (c .before .before .before .before .before .before .before .before .before .before .before .before .args .s .now) (c .before .before .before .before .before .before .before .before .before .before .before .before .args .room) _ _ _ _ _ _ (c .before .before .before .before .before .before .before .before .early .ensures .0) (c .before .before .before .before .before .before .before .if1 .left) (c .before .before .before .before .judged .ensures) in (g .reply, (g .rows, g .text))
 

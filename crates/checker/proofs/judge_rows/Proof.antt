@@ -44,7 +44,7 @@ use denote.Triple.Walked.{Stays, stay-none-slice, gave-slice, walkOf, Walks, end
 use denote.Exit.{yes}
 use Rattle.lent.specs.declared.Row.{Row}
 use Rattle.lent.specs.Structs.{structs}
-use Rattle.lent.proofs.Walks.{Parts, share-in, says-both, says-all, needs-both, free-all}
+use Rattle.lent.proofs.Walks.{Parts, share-in, says-both, says-four, needs-both, free-all}
 use Rattle.lent.proofs.Row as T
 use Rattle.lent.proofs.emit_rows as emit
 use Rattle.lent.proofs.emit_rows.Symbol as emit-def
@@ -165,11 +165,11 @@ module _ {M : Type 1} (𝓤 : URA M) (H : Heap 𝓤) (A : Atoms 𝓤) (W : Given
   abbrev Had : Reply → Val → List ℕ → List Row → List ℕ → List (Item 𝓤)
   Had r w ks rs us = ‵ Own ∷ ‵ (flft κ₀ q₀) ∷ ‵ (flft κ₁ q₁) ∷ ‵ (flft κ₂ q₂) ∷ ‵ (flft κ₃ q₃) ∷ ‵ (finally usize γ₁ ks) ∷ ‵ (finally T.the-row γ₂ rs) ∷ ‵ (finally u8 γ₃ us) ∷ ‵ (R.the-row .own r (w ∷ [])) ∷ []
 
-  exits : (r : Reply) (w : Val) (ks : List ℕ) (rs : List Row) (us : List ℕ) → length ks ≡ length ns → length rs ≡ length ys → length us ≡ length ts → r ≡ reply → rs ≡ placesOf (length ys) answer → us ≡ text → ent 𝓤 (⋆ 𝓤 H A (Had r w ks rs us)) (Post w)
-  exits r w ks rs us k₁ k₂ k₃ e e₁ e₂ =
+  exits : (r : Reply) (w : Val) (ks : List ℕ) (rs : List Row) (us : List ℕ) → length ks ≡ length ns → length rs ≡ length ys → length us ≡ length ts → r ≡ reply → ks ≡ numbers → rs ≡ placesOf (length ys) answer → us ≡ text → ent 𝓤 (⋆ 𝓤 H A (Had r w ks rs us)) (Post w)
+  exits r w ks rs us k₁ k₂ k₃ e e₀ e₁ e₂ =
       qed W (Had r w ks rs us) ∵
       suffices ! _ (ends-at 𝓤 H A f.ended stayed (f.clauses 𝓤 H A at-mem run) W (((κ₀, (κ₁, (κ₂, (κ₃, tt)))), (q₀, (q₁, (q₂, (q₃, tt)))), tt, x, at), tt) w r (tt, (ks, (rs, (us, tt)))) (tt, (k₁, (k₂, (k₃, tt))))) $
-      says-all ! e e₁ e₂ $
+      says-four ! e e₀ e₁ e₂ $
       nothing ! $ move ! (5 ∷ 0 ∷ []) $ join ! $ move ! (4 ∷ 0 ∷ []) $ join ! $ move ! (3 ∷ 0 ∷ []) $ join ! $ move ! (2 ∷ 0 ∷ []) $ join ! $ frame ! $ nothing ! $ move ! (4 ∷ 0 ∷ []) $ fjoin ! $ move ! (3 ∷ 0 ∷ []) $ fjoin ! $ move ! (2 ∷ 0 ∷ []) $ fjoin ! $ move ! (1 ∷ 0 ∷ []) $ fjoin ! $ frame ! $ done !
 
   module _ (C : Calls 𝓤 H) (Λ : Loops 𝓤 H) (fm : FmC 𝓤 H (W .laws) C) (known : Triple 𝓤 (C #checker·judge-in) (Core 𝓤 H A at-mem run)) (known′ : Triple 𝓤 (C #lent·emit-rows) (Emit 𝓤 H A at-mem run)) where
@@ -224,7 +224,7 @@ module _ {M : Type 1} (𝓤 : URA M) (H : Heap 𝓤) (A : Atoms 𝓤) (W : Given
         assigns ! (of-opd ! (load ! (from ! (stop !)) (look ! 42 refl))) (from ! (stop !)) (init ! 52 refl (reply-typed 𝓤 H A W r w is)) $
         returns ! (look ! 52 refl) $ forget ! 52 refl $ forget ! 50 refl $ forget ! 48 refl $ forget ! 46 refl $ forget ! 44 refl $ forget ! 42 refl $ forget ! 40 refl $ forget ! 38 refl $ forget ! 36 refl $ forget ! 34 refl $ forget ! 32 refl $ forget ! 30 refl $ forget ! 28 refl $ forget ! 26 refl $ forget ! 24 refl $ forget ! 22 refl $
         keep ! (52 ∷ 53 ∷ 50 ∷ 51 ∷ 48 ∷ 49 ∷ 46 ∷ 47 ∷ 44 ∷ 45 ∷ 42 ∷ 43 ∷ 40 ∷ 41 ∷ 38 ∷ 39 ∷ 36 ∷ 37 ∷ 34 ∷ 35 ∷ 32 ∷ 33 ∷ 30 ∷ 31 ∷ 28 ∷ 29 ∷ 26 ∷ 27 ∷ 24 ∷ 25 ∷ 22 ∷ 23 ∷ 18 ∷ 12 ∷ 2 ∷ 4 ∷ 10 ∷ 0 ∷ 7 ∷ 14 ∷ 13 ∷ []) $ free-all ! _ $
-        by ! (exits r w (ws .1 .1 .0) (vs .1 .0) (ws .1 .1 .1 .0) m k₂ k₃ e (e₃ ∙ places-are s (length ys) (length ts) (ws .1 .1 .0) (length ns) (λ h. few h .1) e₁ m) e₂))))))))))))))))))))))))))))))))))))
+        by ! (exits r w (ws .1 .1 .0) (vs .1 .0) (ws .1 .1 .1 .0) m k₂ k₃ e e₁ (e₃ ∙ places-are s (length ys) (length ts) (ws .1 .1 .0) (length ns) (λ h. few h .1) e₁ m) e₂))))))))))))))))))))))))))))))))))))
 
 module _ {M : Type 1} (𝓤 : URA M) (H : Heap 𝓤) (A : Atoms 𝓤) (W : Given 𝓤 H A) (at-mem : Memory → SProp 𝓤) (run : Routine → Fun 𝓤) (𝓣 : Tables 𝓤 H) (known : Triple 𝓤 (𝓣 .C #checker·judge-in) (Core 𝓤 H A at-mem run)) (known′ : Triple 𝓤 (𝓣 .C #lent·emit-rows) (Emit 𝓤 H A at-mem run)) where
   judge-rows-walks : Walks 𝓤 H A f.ended stayed (WpFn 𝓤 H (𝓣 .C) (𝓣 .Λ) code.function) (f.clauses 𝓤 H A at-mem run)

@@ -5,19 +5,13 @@ use Rattle.checker.proofs.Lending.{wants-few, few-wide, wants-ending, e
 use borrow.Author.Needs.{needs}
 use Rattle.checker.proofs.wants_all.Statement.{statement}
 use Rattle.checker.proofs.wants_all.Tie as tie
-use Rattle.checker.proofs.wants_all.Reads as reads
-use Rattle.checker.proofs.wants_all.Lts as lts
-use Rattle.checker.proofs.ends_in_all.Reads as ends-in-all-reads
 
--- src/lib.rt:147:9
 returns : tie.Need-returns
 returns c = let h = c .if1 .taken in (wants-few _ _ h, (λ e. absurd (false≢true e), λ e. few-wide _ _ h))
 
--- src/lib.rt:149:5
 ends-in-all-requires : tie.Need-ends-in-all-requires
 ends-in-all-requires c κs = search needs
 
--- src/lib.rt:141:1
 returns-2 : tie.Need-returns-2
 returns-2 c = let h = c .before .if1 .left in let b = c .ends-in-all .ensures in (b ∙ wants-ending _ _ h, (λ e. h, λ e. ending-wide _ _ (λ i. omega (arith, c .before .before .shared-slice-known .given i)) (sym b ∙ e)))
 

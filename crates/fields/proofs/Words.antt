@@ -89,7 +89,7 @@ bytes-take (suc n) [] h i = omega arith
 bytes-take (suc n) (b ∷ t) h zero = h 0
 bytes-take (suc n) (b ∷ t) h (suc i) = bytes-take n t (λ j. h (suc j)) i
 
-bytes-text : (s : List ℕ) (p : ℕ) → Bytes s → Bytes (textAt s p)
+pub bytes-text : (s : List ℕ) (p : ℕ) → Bytes s → Bytes (textAt s p)
 unfolding textAt
 bytes-text s p h = bytes-take (fieldLen (drop p s)) (drop p s) (λ i. rw (getD-drop p s i 0) (h (p + i)))
 

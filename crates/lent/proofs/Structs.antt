@@ -4,7 +4,7 @@ use Prim.Native.Nat.{ℕ, zero, suc, _+_, _-_, _*_, _≤_, _<_}
 use mathlib.Core.List.{List, [], _∷_, _++_, map, append-assoc, append-nil}
 use native.Mathlib.Numerals.{add-one}
 use native.Mathlib.Omega.{arith}
-use lib.ListN.{length, take, drop, getD, set, replicate, length-append, length-drop, length-map, length-replicate}
+use lib.ListN.{length, take, drop, getD, set, replicate, length-append, length-drop, length-map, length-replicate, List·getD-eq-default}
 use lib.Seq.{length-take-le, take-suc, take-length, drop-cons, drop-length, set-at, ext-getD}
 use Rattle.bitml.specs.Lists.{below}
 use Rattle.bitml.specs.Rows as bitml
@@ -28,6 +28,14 @@ unfolding structAt
 struct-is xs i a b c e f g =
     let z : 3 * i + 0 ≡ 3 * i = omega arith in
     rw (e, f, g, z)
+
+-- past the numbers
+pub struct-none : (xs : List ℕ) (i : ℕ) → length xs ≤ 3 * i → noRow ≡ structAt xs i
+struct-none xs i h =
+    struct-is xs i 0 0 0
+    (sym (List·getD-eq-default xs 0 {n = 3 * i + 0} (omega arith)))
+    (sym (List·getD-eq-default xs 0 {n = 3 * i + 1} (omega arith)))
+    (sym (List·getD-eq-default xs 0 {n = 3 * i + 2} (omega arith)))
 
 -- ---- the lent rows ys once i of them are written
 

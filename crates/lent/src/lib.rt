@@ -1,8 +1,8 @@
 // The rows that a caller lends, as structs: they are filled from numbers, three for each row.
 ghost use mathlib.Core.Path.{_≡_};
-ghost use Prim.Native.Nat.{_+_, _*_};
+ghost use Prim.Native.Nat.{_+_, _*_, _≤_, _<_};
 ghost use lib.ListN.{length, getD};
-ghost use Rattle.lent.specs.Structs.{structAt, structs};
+ghost use Rattle.lent.specs.Structs.{structAt, reachedOf, structs};
 
 #[repr(C)]
 pub struct Row {
@@ -26,22 +26,52 @@ fn number_of(numbers: &[usize], i: usize, k: usize) -> usize
     numbers[first + k]
 }
 
+// A whole row is told apart first, so that it costs one test.
 fn row_of(numbers: &[usize], i: usize) -> Row
     ensures { λ r. ⌜ r ≡ structAt (now (numbers .entry)) i ⌝ }
 {
+    if i < numbers.len() / 3 {
+        let first = 3 * i;
+        return Row {
+            node: numbers[first],
+            branch: numbers[first + 1],
+            rank: numbers[first + 2],
+        };
+    }
     let node = number_of(numbers, i, 0);
     let branch = number_of(numbers, i, 1);
     let rank = number_of(numbers, i, 2);
     Row { node, branch, rank }
 }
 
-// Each place of the lent rows is written.
+// How many of n places the numbers reach into: all rows, and one that they end within.
+fn reached(numbers: &[usize], n: usize) -> usize
+    ensures { λ r. ⌜ r ≡ reachedOf n (length (now (numbers .entry))) ⌝ }
+    ensures { λ r. ⌜ (r ≤ n) × (r < n → length (now (numbers .entry)) ≤ 3 * r) ⌝ }
+{
+    let held = numbers.len() / 3;
+    if held < n {
+        return held + 1;
+    }
+    n
+}
+
+// Each place of the lent rows is written: those that the numbers reach into, and zeros past them.
 pub fn emit_rows(numbers: &[usize], rows: &mut [Row])
     ensures { λ _. ⌜ now (rows .exit) ≡ structs (length (now (rows .entry))) (now (numbers .entry)) ⌝ }
 {
+    let held = reached(numbers, rows.len());
     let mut i = 0;
-    while i < rows.len() {
+    while i < held {
         rows[i] = row_of(numbers, i);
+        i += 1;
+    }
+    while i < rows.len() {
+        rows[i] = Row {
+            node: 0,
+            branch: 0,
+            rank: 0,
+        };
         i += 1;
     }
 }

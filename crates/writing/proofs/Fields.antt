@@ -7,7 +7,7 @@ use mathlib.Core.List.{List, [], _∷_, _++_, append-assoc, append-nil}
 use native.Mathlib.Omega.{arith}
 use native.Mathlib.Numerals.{add-one}
 use lib.ListN.{length, getD, take, drop}
-use lib.Seq.{getD-drop, drop-cons, drop-drop, take-add}
+use lib.Seq.{drop-cons, drop-drop, take-add}
 use lib.Dec.{ltb, leb, eqb}
 use borrow.Author.Tests.{eqb-true, eqb-false, ltb-true, ltb-false, leb-true, lt-ltb, le-ltb}
 use Rattle.fields.specs.Field.{comma, zeroDigit, nineDigit, isDigit, allDigits, digitsOn, digitsOf, numberOf, fieldLen, textAt, endAt, afterComma, upTo, numberAt, packedOf, wordFrom, wordAt}
@@ -16,7 +16,7 @@ use Rattle.fields.specs.declared.Num.the-variants.{Is, Not}
 use Rattle.fields.specs.declared.Got.{Got}
 use Rattle.fields.specs.declared.Got.the-variants.{Value, Bad}
 use Rattle.fields.proofs.Ranges.{cond-cases}
-use Rattle.fields.proofs.Words.{Bytes, word-own}
+use Rattle.fields.proofs.Words.{Bytes, word-own, bytes-text}
 use Rattle.texts.specs.Text.{digits, decimal, field}
 
 -- the bytes of s from position a up to b
@@ -144,16 +144,6 @@ field-back s at max v e h =
     ap (λ t. comma ∷ t) (number-back (textAt s (at + 1)) v (u .0)) ∙ comma-text s at (c .0) (c .1) ∙ ap (between s at) (sym (u .1))
 
 -- ---- a word
-
-bytes-take : (n : ℕ) (t : List ℕ) → Bytes t → Bytes (take n t)
-bytes-take zero t h i = omega arith
-bytes-take (suc n) [] h i = omega arith
-bytes-take (suc n) (b ∷ t) h zero = h 0
-bytes-take (suc n) (b ∷ t) h (suc i) = bytes-take n t (λ j. h (suc j)) i
-
-pub bytes-text : (s : List ℕ) (p : ℕ) → Bytes s → Bytes (textAt s p)
-unfolding textAt
-bytes-text s p h = bytes-take (fieldLen (drop p s)) (drop p s) (λ i. rw (getD-drop p s i 0) (h (p + i)))
 
 -- The same of a word that is known by its number: the bytes u have that number, and no other bytes do
 pub word-back : (s : List ℕ) (at w e : ℕ) (u : List ℕ) → Bytes s → Bytes u → wordAt s at ≡ Value w e → packedOf u ≡ w → (w ≡ 0 → ⊥) → comma ∷ u ≡ between s at e

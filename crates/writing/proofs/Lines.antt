@@ -11,7 +11,7 @@ use borrow.Author.Tests.{eqb-true, ltb-true}
 use Rattle.bitml.specs.Lists.{_&_}
 use Rattle.fields.specs.Field.{lf, spelled, packed, packedOf, fieldLen, textAt, endAt, wordFrom, firstAt, lineEndAt, anyNumber}
 use Rattle.fields.specs.declared.Got.the-variants.{Value, Bad}
-use Rattle.fields.proofs.Words.{Bytes, word-own}
+use Rattle.fields.proofs.Words.{Bytes, word-own, bytes-text}
 use Rattle.fields.proofs.Ranges.{cond-cases, first-end, line-end-next}
 use Rattle.tables.specs.Entries.{DefEntry}
 use Rattle.tables.specs.SheetOf.{defEntryAt}
@@ -22,7 +22,7 @@ use Rattle.contracts.specs.declared.Limits.{Limits}
 use Rattle.lines.specs.Definition.{within, depositsAt, ownerAt, rootAt, ownedAt, defineAt}
 use Rattle.texts.specs.Text.{letters, field}
 use Rattle.writing.specs.Written.{say, _then_, repeat, defDone, listedText, contractText, defText}
-use Rattle.writing.proofs.Fields.{between, bytes-text}
+use Rattle.writing.proofs.Fields.{between}
 use Rattle.writing.proofs.Says.{placeOf, starts-trans, starts-at, Says, says-then, says-by, says-text, says-nothing, says-number, says-def}
 use Rattle.writing.proofs.Conditions.{Spells, spells}
 use Rattle.writing.proofs.Contracts.{times-says, listed-says, contract-says}

@@ -1,12 +1,11 @@
 -- A request that is read as `makeall` ends in that line. Assumes nothing.
-use mathlib.Core.Path.{_≡_, refl, sym, _∙_}
+use mathlib.Core.Path.{_≡_, sym, _∙_}
 use Prim.Native.Nat.{ℕ, _≤_, _<_}
 use native.Mathlib.Omega.{arith}
-use mathlib.Core.Bool.{Bool, true, false, false≢true}
+use mathlib.Core.Bool.{true, false, false≢true}
 use mathlib.Core.List.{List}
 use lib.ListN.{length}
-use lib.Dec.{leb}
-use borrow.Author.Tests.{le-ltb, le-leb, lt-leb, leb-true}
+use borrow.Author.Tests.{le-ltb, le-leb, lt-leb}
 use Rattle.bitml.proofs.Lists.{and-true, and-false}
 use Rattle.fields.proofs.Words.{Bytes}
 use Rattle.tables.specs.Entries.{Entries}

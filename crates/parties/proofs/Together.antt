@@ -3,13 +3,13 @@ use mathlib.Core.Path.{_≡_, refl, sym, ap, ap₂, _∙_}
 use Prim.Native.Nat.{ℕ, zero, suc, _+_, _-_, _*_, _≤_, _<_}
 use native.Mathlib.Omega.{arith}
 use mathlib.Core.List.{List, [], _∷_, _++_, map, map-append, append-assoc, List·Memᴰ}
-use lib.ListN.{length, take, drop, replicate, length-append, length-map, length-replicate}
+use lib.ListN.{length, take, drop, replicate, length-map}
 use lib.Seq.{take-append-seam, drop-append-seam}
 use Rattle.bitml.specs.Lists.{gather, below, upFrom}
 use Rattle.bitml.specs.Sheet.{Sheet}
 use Rattle.bitml.specs.Rows.{Row}
 use Rattle.bitml.specs.Rule as rule
-use Rattle.bitml.specs.Answers.{Line, Answer, printed, noRow, padded, madeLines, madeRows, madeBy, making, makingAll, madeForAll, answer}
+use Rattle.bitml.specs.Answers.{Line, Answer, printed, noRow, padded, madeLines, madeRows, madeBy, makingAll, madeForAll, answer}
 use Rattle.bitml.proofs.Lists.{all-of, up-mem, gather-cong, gather-map}
 use Rattle.bitml.proofs.Counting.{gather-split}
 use Rattle.tables.specs.Entries.{Entries}
@@ -31,7 +31,7 @@ use Rattle.checker.specs.Demands.{Room}
 use Rattle.checker.proofs.Entry.{all-enough}
 use Rattle.checker.proofs.Demands.{answer-read}
 use Rattle.parties.specs.Asking.{asking}
-use Rattle.parties.specs.Together.{linesOf, rowsOf, together, Together, OfParties}
+use Rattle.parties.specs.Together.{linesOf, rowsOf, together, OfParties}
 use Rattle.parties.proofs.Asking.{asks, asks-short}
 
 -- ---- lists

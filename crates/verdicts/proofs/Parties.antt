@@ -18,7 +18,6 @@ use Rattle.texts.specs.Text.{linesText}
 use Rattle.texts.specs.Wrote.{Wrote}
 use Rattle.texts.proofs.Texts.{lines-append}
 use Rattle.texts.proofs.Writing.{wrote-none, wrote-then, drop-zeros}
-use Rattle.replies.specs.declared.Reply.{Reply}
 use Rattle.replies.specs.Answer.{Gives}
 use Rattle.replies.proofs.Giving.{gives-printed}
 use Rattle.verdicts.specs.Parties.{linesUpTo, numbersUpTo}

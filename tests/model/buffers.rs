@@ -1,6 +1,6 @@
 //! Cases of calls that lend buffers: how long these must be, and what every place and byte of them holds
-//! afterwards.  They were written by hand from documents 01 and 02; the model and the verified library are
-//! both held to them.
+//! afterwards.  They were written by hand from document 01 and the change requests; the model and the
+//! verified library are both held to them.
 
 use crate::cases::{rows_of_sixteen, sixteen_parties, D, M, T, W};
 use crate::model::sheets::Answer;

@@ -517,7 +517,10 @@ fn bench_tables() -> Result<(), String> {
 /// dies if that is short.
 fn on_stack(kib: usize) -> bool {
     // The requests are made on the main thread: the model that helps to make them needs stack too.
-    let (requests, sheets) = (requests(), sheets_to_write());
+    let (mut requests, sheets) = (requests(), sheets_to_write());
+    for word in ["make,0", "makeall", "check,0", "play,1"] {
+        requests.push((word, library::ALL_ROWS, format!("{}{word}\n", deepest())));
+    }
     let run = move || {
         for (_, places, request) in &requests {
             let mut buffers = Buffers::new(*places);

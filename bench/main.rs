@@ -176,19 +176,109 @@ fn twice(rows: &str) -> String {
     format!("{second}\n{rest}")
 }
 
-/// Requests, and the places for rows that are lent for them.
-fn requests() -> Vec<(&'static str, usize, String)> {
-    let sheet = largest_sheet();
-    let make = format!("{sheet}make,0\n");
+/// Conditions of 64 fields in few bytes, to be gone through to the end: they name no secret and are
+/// true, or name one in the last field.
+fn conditions() -> [(&'static str, String); 4] {
+    let sums = "add,k,1,".repeat(19);
+    let facts = "and,eq,k,0,k,0,".repeat(9);
+    let conditions = [
+        ("ands", "and,t,".repeat(29) + "not,and,not,t,not,t"),
+        ("sums", format!("not,not,eq,k,20,{sums}k,1")),
+        ("facts", format!("{facts}and,t,eq,k,0,add,k,0,k,0")),
+        ("a secret", format!("not,not,lt,k,0,{sums}v,0")),
+    ];
+    for (name, condition) in &conditions {
+        let fields = condition.split(',').count();
+        assert_eq!(fields, model::CONDITION_FIELDS, "{name}");
+    }
+    conditions
+}
+
+/// The nodes of a chain of reveals below the root, as deep as it may be.
+const CHAIN: usize = model::DEPTH - 1;
+
+/// A sheet for 16 participants with so many reveals of a secret of participant 0 under this
+/// condition, one at a node.  Each node pays too, so that the rows of `make` don't turn on them.
+fn sheet_of(condition: &str, reveals: usize) -> String {
+    let chain = |reveals: usize| {
+        let before = format!("c,2,0,0,r,1,0,{condition},").repeat(reveals);
+        format!("1,{before}c,1,0,0,w,0{}", ",0,0,w,0".repeat(reveals))
+    };
+    let each = CHAIN - 1;
+    let lengths = (0..reveals).step_by(each);
+    let chains: Vec<String> = lengths
+        .map(|from| chain(each.min(reveals - from)))
+        .collect();
+    let (zeros, parts) = (",0".repeat(16), chains.len());
+    let chains = chains.join(",");
+    format!("bitml,16,1\ndef{zeros},1,0,c,2,0,0,s,{parts},{chains},0,0,w,0\n")
+}
+
+/// With as many reveals as fit.
+fn full_of(condition: &str) -> String {
+    let fits = |sheet: &String| sheet.len() <= model::SHEET_BYTES;
+    let sheets = (1..model::NODES).map(|reveals| sheet_of(condition, reveals));
+    sheets.take_while(fits).last().unwrap_or_default()
+}
+
+/// Rows for such a sheet by its reveals: a rank is 1 more than that of the next node.
+fn rows_by_conditions(sheet: &str) -> String {
+    let reveals = sheet.matches(",r,").count();
+    let mut rows = "row,0,1,1\n".to_string();
+    let mut node = 0;
+    for from in (0..reveals).step_by(CHAIN - 1) {
+        let length = (CHAIN - 1).min(reveals - from);
+        for rank in (1..=length + 1).rev() {
+            node += 1;
+            rows += &format!("row,{node},0,{rank}\n");
+        }
+    }
+    rows
+}
+
+/// Requests with sheets full of conditions; those without rows are refused when judging begins.
+fn requests_of_conditions() -> Vec<(String, usize, String)> {
+    let (few, all) = (library::ROWS, library::ALL_ROWS);
+    let mut requests = Vec::new();
+    for (name, condition) in conditions() {
+        let sheet = full_of(&condition);
+        let make = format!("{sheet}make,0\n");
+        let rows = made_rows(&make);
+        let mut add = |what: &str, places: usize, part: &str| {
+            requests.push((format!("{name}, {what}"), places, format!("{sheet}{part}")));
+        };
+        add("make", few, "make,0\n");
+        add("makeall", all, "makeall\n");
+        add("check", few, &format!("check,0\n{rows}"));
+        if !condition.contains('v') {
+            let rows = rows_by_conditions(&sheet);
+            add("check by them", few, &format!("check,0\n{rows}"));
+        }
+        add("no rows", few, "check,0\n");
+    }
+    requests
+}
+
+/// The rows that the model makes.
+fn made_rows(make: &str) -> String {
     let (reply, _) = model::judge(make.as_bytes());
     let printed = reply.printed();
     let rows = printed.rsplit_once("liquid").map_or("", |(rows, _)| rows);
+    assert!(!rows.is_empty(), "{printed}");
+    rows.to_string()
+}
+
+/// Requests, and the places for rows that are lent for them.
+fn requests() -> Vec<(String, usize, String)> {
+    let sheet = largest_sheet();
+    let make = format!("{sheet}make,0\n");
+    let rows = made_rows(&make);
     assert_eq!(rows.lines().count(), model::ROWS);
     let makeall = format!("{sheet}makeall\n");
     assert_eq!(lines(makeall.as_bytes()).0, 16 * (model::ROWS + 1));
     let smallest = format!("{}make,0\n", cases::T);
     let (few, all) = (library::ROWS, library::ALL_ROWS);
-    vec![
+    let requests = vec![
         ("smallest", few, smallest.clone()),
         ("smallest, 8,192 places", all, smallest),
         ("largest sheet, make", few, make),
@@ -203,7 +293,7 @@ fn requests() -> Vec<(&'static str, usize, String)> {
         (
             "a row twice",
             few,
-            format!("{sheet}check,0\n{}", twice(rows)),
+            format!("{sheet}check,0\n{}", twice(&rows)),
         ),
         ("mixed events", few, mixed_events()),
         (
@@ -212,7 +302,11 @@ fn requests() -> Vec<(&'static str, usize, String)> {
             format!("{}play\n{}", cases::N, "wait,1\n".repeat(9_350)),
         ),
         ("conditions of 64 fields", few, long_conditions()),
-    ]
+    ];
+    let named =
+        |(name, places, request): (&str, usize, String)| (name.to_string(), places, request);
+    let requests = requests.into_iter().map(named);
+    requests.chain(requests_of_conditions()).collect()
 }
 
 /// As many entries and fields as fit: 512 nodes, all but the roots behind an `r` that lists eight secrets,
@@ -391,6 +485,7 @@ fn bench() -> Result<(), String> {
         "request", "bytes", "lines", "taken", "library", "model", "ratio", "runs"
     );
     let mut found = BTreeMap::new();
+    let mut others = Vec::new();
     for (name, places, request) in requests() {
         let request = request.as_bytes();
         let raced = race(
@@ -398,28 +493,22 @@ fn bench() -> Result<(), String> {
             |buffers| buffers.by_library(black_box(request)),
             |buffers| buffers.by_model(black_box(request)),
         );
-        let (library, model, runs) = raced.map_err(|what| format!("{name}: {what}"))?;
-        found.insert(name, (library, model));
+        let (library, model, runs) = match raced {
+            Ok(times) => times,
+            Err(what) => {
+                println!("{name}: {what}");
+                others.push(name);
+                continue;
+            }
+        };
         let (bytes, (lines, taken)) = (request.len(), lines(request));
         let ratio = library / model;
         println!(
             "{name:24} {bytes:7} {lines:7} {taken:7} {library:10.1} {model:10.1} {ratio:7.2} {runs:7}"
         );
+        found.insert(name, (library, model));
     }
-    for (whole, read) in [
-        ("largest sheet, make", "no rows"),
-        ("largest sheet, makeall", "no rows"),
-        ("largest sheet, check", "a row twice"),
-    ] {
-        let (library, model) = (
-            found[whole].0 - found[read].0,
-            found[whole].1 - found[read].1,
-        );
-        println!(
-            "{whole}, without the reading: library {library:.1}, model {model:.1}, ratio {:.2}",
-            library / model
-        );
-    }
+    without_reading(&found);
     for places in [library::ROWS, library::ALL_ROWS] {
         let mut buffers = Buffers::new(places);
         let mut times = Vec::new();
@@ -441,7 +530,37 @@ fn bench() -> Result<(), String> {
         "but it is written for plainness, with trees and lists on the heap.  A program written"
     );
     println!("for speed would be quicker than the model, so a ratio near 1 is no praise.");
+    if !others.is_empty() {
+        return Err(format!("other answers: {}", others.join("; ")));
+    }
     parties.and(tables)
+}
+
+/// What is left of the medians without what the request takes before it is judged.
+fn without_reading(found: &BTreeMap<String, (f64, f64)>) {
+    let largest = [
+        ("largest sheet, make", "no rows"),
+        ("largest sheet, makeall", "no rows"),
+        ("largest sheet, check", "a row twice"),
+    ];
+    let largest = largest.map(|(whole, read)| (whole.to_string(), read.to_string()));
+    let words = ["make", "makeall", "check", "check by them"];
+    let of_conditions = conditions().into_iter().flat_map(|(name, _)| {
+        words.map(|word| (format!("{name}, {word}"), format!("{name}, no rows")))
+    });
+    for (whole, read) in largest.into_iter().chain(of_conditions) {
+        let (Some(whole_times), Some(read_times)) = (found.get(&whole), found.get(&read)) else {
+            continue;
+        };
+        let library = whole_times.0 - read_times.0;
+        let model = whole_times.1 - read_times.1;
+        println!(
+            "{whole}, without the reading: library {library:.1}, model {model:.1}, ratio {:.2}; of the reading, library {:.2}, model {:.2}",
+            library / model,
+            library / read_times.0,
+            model / read_times.1
+        );
+    }
 }
 
 /// `makeall` on the largest sheet, and `make` for one participant after the other, both by the library.
@@ -519,7 +638,8 @@ fn on_stack(kib: usize) -> bool {
     // The requests are made on the main thread: the model that helps to make them needs stack too.
     let (mut requests, sheets) = (requests(), sheets_to_write());
     for word in ["make,0", "makeall", "check,0", "play,1"] {
-        requests.push((word, library::ALL_ROWS, format!("{}{word}\n", deepest())));
+        let request = format!("{}{word}\n", deepest());
+        requests.push((word.to_string(), library::ALL_ROWS, request));
     }
     let run = move || {
         for (_, places, request) in &requests {

@@ -53,6 +53,7 @@ pub fn by_hand() -> Vec<Case> {
     contracts_made(&mut cases);
     longest_reply(&mut cases);
     parties(&mut cases);
+    anyway(&mut cases);
     cases.list
 }
 
@@ -622,4 +623,53 @@ fn parties(cases: &mut Cases) {
     longest += &"x".repeat(65_536 - longest.len());
     cases.refused("65,536 bytes, a line too many", &longest, 9, 4, 1);
     cases.refused("65,537 bytes with it", &format!("{longest}x"), 1, 0, 0);
+}
+
+/// Exits by conditions of 64 fields that hold anyway, one below the other as deep as contracts may
+/// be, for the last of 16 participants; and the same with another condition in the last place.
+fn anyway(cases: &mut Cases) {
+    let holds = format!("not,not,eq,k,20,{}k,1", "add,k,1,".repeat(19));
+    let sheet = |last: &str| {
+        let chain = format!("c,1,0,0,r,1,0,{holds},").repeat(30);
+        let zeros = ",0".repeat(16);
+        let last = format!("c,1,0,0,r,1,0,{last},c,1,0,0,w,0");
+        format!("bitml,16,1\ndef{zeros},1,15,{chain}{last}\n")
+    };
+    let rows: String = (0..32)
+        .map(|node| format!("row,{node},0,{}\n", 32 - node))
+        .collect();
+    let frozen: String = (0..15).map(|who| format!("frozen,{who},0\n")).collect();
+    let right = sheet(&holds);
+    cases.expect(
+        "31 conditions that hold anyway, all parties",
+        &format!("{right}makeall\n"),
+        &format!("{frozen}{rows}liquid,15,32,32"),
+    );
+    cases.expect(
+        "31 conditions that hold anyway, rows",
+        &format!("{right}check,15\n{rows}"),
+        "liquid,15,32,32",
+    );
+    for (name, last) in [
+        ("a false one", holds.replace("k,20", "k,21")),
+        (
+            "one with a secret at the end",
+            holds.replace("add,k,1,k,1", "add,k,1,v,0"),
+        ),
+    ] {
+        let other = sheet(&last);
+        cases.expect(
+            &format!("31 conditions, {name}"),
+            &format!("{other}make,15\n"),
+            "frozen,15,0",
+        );
+        // `check` stands on line 3, so that the row of node 30 is line 34.
+        cases.refused(
+            &format!("31 conditions, {name}, rows"),
+            &format!("{other}check,15\n{rows}"),
+            12,
+            34,
+            0,
+        );
+    }
 }

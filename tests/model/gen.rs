@@ -171,7 +171,10 @@ struct Shape {
     actions: [usize; 4],
     /// Percent of the conditions that are the one field `t`.
     plain: usize,
+    /// Most fields of the others.
     condition: usize,
+    /// Percent of the conditions that name no secret; and of those of own branches that are not `t`.
+    anyway: usize,
     /// Percent of the branches that need no signer; of the rest half need the favourite alone.
     unsigned: usize,
     /// Percent of secrets that the favourite owns.
@@ -202,13 +205,14 @@ impl Shape {
             actions: [4, 3, 4, 0],
             plain: random.pick(&[30, 60, 95, 100]),
             condition: random.between(2, 20),
+            anyway: random.pick(&[0, 50, 100]),
             unsigned: random.pick(&[30, 70, 95, 100]),
             favour: random.pick(&[40, 80, 100]),
             open: random.pick(&[20, 70, 95]),
             rich: random.pick(&[0, 10, 60]),
             easy: random.chance(60),
         };
-        match random.below(9) {
+        match random.below(12) {
             // Small and plain.
             0 => {}
             // Deep.
@@ -257,8 +261,21 @@ impl Shape {
                 shape.participants = random.between(5, 16);
                 shape.unsigned = random.pick(&[20, 60, 90]);
             }
+            // Exits by conditions that hold anyway.
+            7..=9 => {
+                shape.secrets = random.between(2, 8);
+                shape.favour = 100;
+                shape.actions = [0, 1, 8, 0];
+                shape.condition = random.pick(&[5, 8, 20, 64]);
+                shape.anyway = random.pick(&[50, 100]);
+                shape.plain = 30;
+                shape.nodes = random.between(2, 40);
+                shape.depth = random.between(2, 8);
+                shape.most = random.pick(&[1, 1, 2, 3]);
+                shape.easy = random.chance(90);
+            }
             // Splits and renewals that nothing hinders: plays that make many contracts.
-            7 => {
+            10 => {
                 shape.definitions = random.between(1, 3);
                 shape.nodes = random.between(40, 512);
                 shape.branches = 1_024;
@@ -463,19 +480,14 @@ impl Grower<'_> {
             }
             2 => {
                 self.nodes_left -= 1;
-                let condition = self.shape.condition;
-                let plain = own || self.random.chance(self.shape.plain);
-                let fields = if plain {
-                    1
+                if own {
+                    self.reveal_anyway(self.favoured.clone());
                 } else {
-                    self.random.between(1, condition)
-                };
-                let secrets = if own {
-                    self.favoured.clone()
-                } else {
-                    (0..self.secrets).collect()
-                };
-                self.reveal(fields, secrets);
+                    let plain = self.random.chance(self.shape.plain);
+                    let most = if plain { 1 } else { self.shape.condition };
+                    let fields = self.random.between(1, most);
+                    self.reveal(fields, (0..self.secrets).collect());
+                }
                 self.contract(depth + 1);
             }
             _ => {
@@ -502,8 +514,8 @@ impl Grower<'_> {
         weights
     }
 
-    /// `r`, some of these secrets, and a condition of just so many fields.
-    fn reveal(&mut self, fields: usize, mut secrets: Vec<usize>) {
+    /// `r` and some of these secrets.
+    fn listed(&mut self, mut secrets: Vec<usize>) -> Vec<usize> {
         self.random.shuffle(&mut secrets);
         let count = self.random.between(1, secrets.len());
         secrets.truncate(count);
@@ -512,52 +524,115 @@ impl Grower<'_> {
         for secret in &secrets {
             self.put_number(*secret, Role::Secret);
         }
-        self.condition(fields, &secrets);
+        secrets
     }
 
-    /// A condition of exactly so many fields (1 or more).
-    fn condition(&mut self, fields: usize, listed: &[usize]) {
+    /// `r`, some of these secrets, and a condition of just so many fields.
+    fn reveal(&mut self, fields: usize, secrets: Vec<usize>) {
+        let listed = self.listed(secrets);
+        let constant = self.random.chance(self.shape.anyway);
+        let named = if constant { &[] } else { &listed[..] };
+        let first = self.line.len();
+        self.condition(fields, named);
+        if constant && self.random.chance(20) {
+            self.name_a_secret(first, &listed);
+        }
+    }
+
+    /// `r`, some of these secrets, and a condition that holds anyway, if it names no secret in the end.
+    fn reveal_anyway(&mut self, secrets: Vec<usize>) {
+        let listed = self.listed(secrets);
+        let plain = !self.random.chance(self.shape.anyway);
+        let most = if plain { 1 } else { self.shape.condition };
+        // One field is left for the `not` that makes a false condition true.
+        let fields = self
+            .random
+            .between(1, most.min(model::CONDITION_FIELDS - 1));
+        let first = self.line.len();
+        if self.condition(fields, &[]) == Some(false) {
+            self.line.insert(first, word("not"));
+            self.bytes += "not,".len();
+        }
+        if self.random.chance(2) {
+            self.name_a_secret(first, &listed);
+        }
+    }
+
+    /// Some constant of the condition that begins here, if it has one, becomes a listed secret.
+    fn name_a_secret(&mut self, first: usize, listed: &[usize]) {
+        let is_constant = |place: &usize| self.line[*place].role == Role::Constant;
+        let constants: Vec<usize> = (first..self.line.len()).filter(is_constant).collect();
+        if !constants.is_empty() {
+            let place = self.random.pick(&constants);
+            let secret = self.random.pick(listed);
+            let before = line_length(&self.line[place - 1..=place]);
+            self.line[place - 1] = word("v");
+            self.line[place] = number(secret as u64, Role::Secret);
+            self.bytes += line_length(&self.line[place - 1..=place]);
+            self.bytes -= before;
+        }
+    }
+
+    // What follows gives the value of what it puts, or none where that names a secret.
+
+    /// A condition of exactly so many fields (1 or more) that names only these secrets.
+    fn condition(&mut self, fields: usize, named: &[usize]) -> Option<bool> {
         // A comparison has 5, 8, 11, ... fields, since an expression has 2, 5, 8, ...
         let comparison = fields >= 5 && fields % 3 == 2;
         if comparison && (fields == 5 || self.random.chance(50)) {
             let fact = self.random.pick(&["eq", "lt", "lt"]);
             self.put_word(fact);
-            self.two_expressions((fields - 5) / 3, listed);
+            let (left, right) = self.two_expressions((fields - 5) / 3, named)?;
+            Some(if fact == "eq" {
+                left == right
+            } else {
+                left < right
+            })
         } else if fields == 1 {
             self.put_word("t");
+            Some(true)
         } else if fields >= 3 && self.random.chance(70) {
             self.put_word("and");
             let first = self.random.between(1, fields - 2);
-            self.condition(first, listed);
-            self.condition(fields - 1 - first, listed);
+            let left = self.condition(first, named);
+            let right = self.condition(fields - 1 - first, named);
+            Some(left? && right?)
         } else {
             self.put_word("not");
-            self.condition(fields - 1, listed);
+            Some(!self.condition(fields - 1, named)?)
         }
     }
 
     /// Two expressions with so many sums and differences together.
-    fn two_expressions(&mut self, inner: usize, listed: &[usize]) {
+    fn two_expressions(&mut self, inner: usize, named: &[usize]) -> Option<(i64, i64)> {
         let first = self.random.between(0, inner);
-        self.expression(first, listed);
-        self.expression(inner - first, listed);
+        let left = self.expression(first, named);
+        let right = self.expression(inner - first, named);
+        Some((left?, right?))
     }
 
-    fn expression(&mut self, inner: usize, listed: &[usize]) {
+    fn expression(&mut self, inner: usize, named: &[usize]) -> Option<i64> {
         if inner > 0 {
             let sum = self.random.pick(&["add", "sub"]);
             self.put_word(sum);
-            self.two_expressions(inner - 1, listed);
-        } else if self.random.chance(60) {
-            let secret = self.random.pick(listed);
+            let (left, right) = self.two_expressions(inner - 1, named)?;
+            Some(if sum == "add" {
+                left + right
+            } else {
+                left - right
+            })
+        } else if !named.is_empty() && self.random.chance(60) {
+            let secret = self.random.pick(named);
             self.put_word("v");
             self.put_number(secret, Role::Secret);
+            None
         } else {
             let constant = self
                 .random
                 .pick(&[0, 0, 1, 1, 2, 3, 999_999_999, 1_000_000_000]);
             self.put_word("k");
             self.put_number(constant, Role::Constant);
+            Some(constant as i64)
         }
     }
 
@@ -585,7 +660,7 @@ impl Grower<'_> {
         for group in groups {
             self.guard(self.shape.easy);
             if group.len() == 1 && !self.favoured.is_empty() && self.random.chance(50) {
-                self.reveal(1, self.favoured.clone());
+                self.reveal_anyway(self.favoured.clone());
                 self.exact_contract(group[0]);
             } else {
                 self.put_word("s");
@@ -844,7 +919,7 @@ impl Generator {
                         }
                         grower.guard(grower.shape.easy);
                         if !grower.favoured.is_empty() && grower.random.chance(50) {
-                            grower.reveal(1, grower.favoured.clone());
+                            grower.reveal_anyway(grower.favoured.clone());
                         } else {
                             grower.put_word("s");
                             grower.put_number(1, Role::Count);
@@ -957,7 +1032,7 @@ impl Generator {
         };
         match self.random.below(12) {
             0..=2 => {
-                let participant = self.random.below(sheet.participants);
+                let participant = self.participant(&sheet, 50);
                 draft.lines.push(vec![
                     word("make"),
                     number(participant as u64, Role::Participant),
@@ -981,6 +1056,19 @@ impl Generator {
         }
     }
 
+    /// A participant, in so many of 100 cases one for whom the sheet is liquid, if there is one.
+    fn participant(&mut self, sheet: &Sheet, percent: usize) -> usize {
+        if self.random.chance(percent) {
+            let liquid: Vec<usize> = (0..sheet.participants)
+                .filter(|participant| model::make(sheet, *participant).is_ok())
+                .collect();
+            if !liquid.is_empty() {
+                return self.random.pick(&liquid);
+            }
+        }
+        self.random.below(sheet.participants)
+    }
+
     /// `makeall`, now and then with a field or a line too many.
     fn add_make_all(&mut self, draft: &mut Draft) {
         let mut line = vec![word("makeall")];
@@ -997,16 +1085,7 @@ impl Generator {
 
     /// `check` with rows that are accepted or nearly so.
     fn add_check(&mut self, draft: &mut Draft, sheet: &Sheet) {
-        // Most often a participant for whom the sheet is liquid, if there is one.
-        let mut participant = self.random.below(sheet.participants);
-        if self.random.chance(85) {
-            let liquid: Vec<usize> = (0..sheet.participants)
-                .filter(|participant| model::make(sheet, *participant).is_ok())
-                .collect();
-            if !liquid.is_empty() {
-                participant = self.random.pick(&liquid);
-            }
-        }
+        let participant = self.participant(sheet, 85);
         let reached = model::reached(sheet);
         let exits = model::exits(sheet, participant);
         // Rows for nodes that no run reaches are taken too, where their branches allow it.
@@ -1714,7 +1793,13 @@ impl Grower<'_> {
                     let fields = self.random.between(40, 64);
                     self.reveal(fields, (0..self.secrets).collect());
                     self.put_word("c");
-                    self.put_number(0, Role::Count);
+                    if self.random.chance(50) {
+                        self.put_number(0, Role::Count);
+                    } else {
+                        self.put_number(1, Role::Count);
+                        self.guard(self.shape.easy);
+                        self.withdraw();
+                    }
                 } else {
                     self.withdraw();
                 }

@@ -12,8 +12,8 @@
 //!   the same for buffers of any length, and [`call`] fills them.
 //! * [`sheets`] has a sheet as a table, from its text and back.
 //!
-//! `rule!`, `limit!` and `lower!` are of wrong.rs.  What comes first in a `rule!` is the rule; what
-//! follows it are wrong ones by name, which only the test of the cases turns on.
+//! `rule!`, `limit!`, `lower!` and `asking!` are of wrong.rs.  What comes first in a `rule!` is the
+//! rule; what follows it are wrong ones by name, which only the test of the cases turns on.
 
 #[macro_use]
 #[path = "wrong.rs"]
@@ -22,6 +22,7 @@ pub mod wrong;
 pub mod sheets;
 
 use sheets::Answer;
+use wrong::Operand;
 
 // ---------------------------------------------------------------------------------------------
 // Limits
@@ -899,28 +900,40 @@ impl Sheet {
             NoSignerAtAll: signers == 0,
             MustSign: signers == 1 << participant,
             AmongTheSigners: signers == 0 || branch.is_signed_by(participant));
-        let kind_is_own = match &branch.action {
+        let kind_is_own = || match &branch.action {
             Action::Withdraw { to } => rule!(true; OthersNotPaid: *to == participant),
             Action::Split { .. } => rule!(true; SplitsNotOwn: false),
             Action::Reveal {
                 secrets, condition, ..
             } => {
                 let theirs = |secret: &usize| owners[*secret] == participant;
-                rule!(*condition == Condition::True;
-                    AnyCondition: true,
-                    TrueConditions: condition.holds(&|_| 0),
-                    RevealsNotOwn: false)
-                    && rule!(secrets.iter().all(theirs);
-                        OwnersIgnored: true,
-                        OneOwnedSuffices: secrets.iter().any(theirs),
-                        FirstOwnedSuffices: theirs(&secrets[0]))
+                let other = *condition != Condition::True;
+                // The condition comes last: the secrets, one at least, are all of one participant at
+                // most, so it is judged once however many participants the branch is looked at for.
+                rule!(secrets.iter().all(theirs);
+                    OwnersIgnored: true,
+                    OwnersIgnoredAnyway: other || secrets.iter().all(theirs),
+                    OneOwnedSuffices: secrets.iter().any(theirs),
+                    OneOwnedSufficesAnyway: secrets.iter().filter(|it| theirs(it)).count()
+                        >= if other { 1 } else { secrets.len() },
+                    FirstOwnedSuffices: theirs(&secrets[0]))
+                    && rule!(condition.counts();
+                        AnyCondition: true,
+                        RevealsNotOwn: false,
+                        CountsInDefinition0: condition.counts() && (!other || definition == 0),
+                        CountsAtRoots: condition.counts()
+                            && (!other || self.nodes[node].depth == 1),
+                        CountsByTheFirst: wrong::first_condition(self)
+                            .is_some_and(Condition::counts))
             }
             Action::Renew { .. } => rule!(false;
                 RenewalsOwn: true,
                 RenewalsOwnAlone: self.participants == 1),
         };
         let open = rule!(true; MustBeOpen: branch.opens == 0);
-        signed_by_none_but_them && kind_is_own && open
+        let signed_by_none_but_them = rule!(signed_by_none_but_them;
+            SignersIgnoredAnyway: signed_by_none_but_them || wrong::is_other(branch));
+        signed_by_none_but_them && open && kind_is_own()
     }
 }
 
@@ -1009,7 +1022,8 @@ pub fn make(sheet: &Sheet, participant: usize) -> Result<Vec<Row>, usize> {
         OwnBranchesOnly: reached_by(sheet, own),
         OpenBranchesOnly: reached_by(sheet, |node, number| branch(node, number).opens == 0),
         UnsignedBranchesOnly: reached_by(sheet, |node, number| branch(node, number).signers == 0),
-        RenewalsNotFollowed: reached_by(sheet, |node, number| !branch(node, number).is_renewal()));
+        RenewalsNotFollowed: reached_by(sheet, |node, number| !branch(node, number).is_renewal()),
+        FalseNotFollowed: reached_by(sheet, |node, number| !wrong::is_false(branch(node, number))));
     let mut nodes = (0..sheet.nodes.len()).filter(|node| reached[*node]);
     let frozen = |node: &usize| exits[*node].is_none();
     let found = rule!(nodes.clone().find(frozen);
@@ -1068,6 +1082,7 @@ pub fn check(sheet: &Sheet, participant: usize, rows: &[Row], line: usize) -> Re
             rule!(true;
                 RowsOfTheBranchOnly: *number == row.branch,
                 RowsOfOwnOnly: own(number),
+                RowsOfFalseNotAsked: !wrong::is_false(&branches[*number]),
                 RowsOfRenewalsNotAsked: !branches[*number].is_renewal())
         };
         let asking = (0..branches.len()).filter(asks);
@@ -1145,26 +1160,31 @@ fn commit(values: &[Value]) -> Vec<Commitment> {
 }
 
 impl Expression {
-    /// The value over the told secrets of a set.  It may be negative.
-    pub fn value(&self, secret: &impl Fn(usize) -> i64) -> i64 {
-        match self {
+    /// The value, which may be negative; none if it names a secret that has none.
+    pub fn value(&self, secret: &impl Fn(usize) -> Option<i64>) -> Option<i64> {
+        Some(match self {
             Expression::Constant(number) => *number as i64,
-            Expression::Secret(number) => secret(*number),
+            Expression::Secret(number) => secret(*number)?,
             Expression::Add(left, right) => {
-                let (left, right) = (left.value(secret), right.value(secret));
+                let (left, right) = (left.value(secret)?, right.value(secret)?);
                 rule!(left + right;
                     AddIsSub: left - right,
-                    AddIn32Bits: i64::from((left + right) as i32))
+                    AddIsFirst: left,
+                    AddIsSecond: right,
+                    AddIn32Bits: i64::from((left + right) as i32),
+                    AddStops: (left + right).min(VALUE as i64))
             }
             Expression::Subtract(left, right) => {
-                let (left, right) = (left.value(secret), right.value(secret));
+                let (left, right) = (left.value(secret)?, right.value(secret)?);
                 rule!(left - right;
                     SubIsAdd: left + right,
+                    SubIsFirst: left,
+                    SubIsSecond: right,
                     SubAbsolute: (left - right).abs(),
                     SubClipped: (left - right).max(0),
                     SubTurned: right - left)
             }
-        }
+        })
     }
 
     /// How many fields it has.
@@ -1191,29 +1211,68 @@ impl Condition {
         }
     }
 
-    pub fn holds(&self, secret: &impl Fn(usize) -> i64) -> bool {
-        match self {
+    /// Is it true?  None if it names a secret that has no value, also in a part that can't matter.
+    pub fn holds(&self, secret: &impl Fn(usize) -> Option<i64>) -> Option<bool> {
+        Some(match self {
             Condition::True => rule!(true; TrueIsFalse: false),
             Condition::And(left, right) => {
-                let (left, right) = (left.holds(secret), right.holds(secret));
+                let (left, right) = (left.holds(secret)?, right.holds(secret)?);
                 rule!(left && right; AndIsOr: left || right, AndIsLeft: left, AndIsRight: right)
             }
-            Condition::Not(part) => rule!(!part.holds(secret); NotIsNothing: part.holds(secret)),
+            Condition::Not(part) => {
+                let part = part.holds(secret)?;
+                rule!(!part; NotIsNothing: part)
+            }
             Condition::Equal(left, right) => {
-                let (left, right) = (left.value(secret), right.value(secret));
+                let (left, right) = (left.value(secret)?, right.value(secret)?);
                 rule!(left == right;
                     EqIsUnequal: left != right,
                     EqIsAtMost: left <= right,
-                    EqIsAtLeast: left >= right)
+                    EqIsAtLeast: left >= right,
+                    EqOfSizes: left.abs() == right.abs())
             }
             Condition::Less(left, right) => {
-                let (left, right) = (left.value(secret), right.value(secret));
+                let (left, right) = (left.value(secret)?, right.value(secret)?);
                 rule!(left < right;
                     LtIsGreater: left > right,
                     LtIsAtMost: left <= right,
-                    LtIsUnequal: left != right)
+                    LtIsUnequal: left != right,
+                    LtUnsigned: (left as u64) < right as u64,
+                    LtOfSizes: left.abs() < right.abs())
             }
-        }
+        })
+    }
+
+    /// Does it count as `t` where a branch may be own: does it name no secret, and is it true?
+    pub fn counts(&self) -> bool {
+        let value = asking!(self.holds(&|_| None));
+        let true_with = |value: i64| self.holds(&|_| Some(value)) == Some(true);
+        rule!(value == Some(true);
+            OnlyT: *self == Condition::True,
+            ComparedCountOnly: value == Some(true) && wrong::is_flat(self),
+            SumsDoNotCount: value == Some(true) && !wrong::has_sums(self),
+            LongestDoNotCount: value == Some(true) && self.fields() < CONDITION_FIELDS,
+            FalseCounts: value.is_some(),
+            TrueForZeros: true_with(0),
+            TrueForOnes: true_with(1),
+            TrueForAll: [0, 1, 2, 9, VALUE as i64].into_iter().all(true_with),
+            TrueForTheirNumbers: self.holds(&|secret| Some(secret as i64)) == Some(true),
+            SecretZeroOverlooked: self.holds(&|it| (it == 0).then_some(0)) == Some(true),
+            OneIsNamed: value == Some(true) && !wrong::has_one(self, false),
+            OneOrAndIsNamed: value == Some(true) && !wrong::has_one(self, true),
+            FalseAndDecides: wrong::lazily(self, [true, false]) == Some(true),
+            FalseBehindDecides: wrong::lazily(self, [false, true]) == Some(true),
+            UnnamedInNot: wrong::overlooks(self, Operand::OfNot),
+            UnnamedFirstInAnd: wrong::overlooks(self, Operand::FirstOfAnd),
+            UnnamedSecondInAnd: wrong::overlooks(self, Operand::SecondOfAnd),
+            UnnamedFirstInEq: wrong::overlooks(self, Operand::FirstOfEq),
+            UnnamedSecondInEq: wrong::overlooks(self, Operand::SecondOfEq),
+            UnnamedFirstInLt: wrong::overlooks(self, Operand::FirstOfLt),
+            UnnamedSecondInLt: wrong::overlooks(self, Operand::SecondOfLt),
+            UnnamedFirstInAdd: wrong::overlooks(self, Operand::FirstOfAdd),
+            UnnamedSecondInAdd: wrong::overlooks(self, Operand::SecondOfAdd),
+            UnnamedFirstInSub: wrong::overlooks(self, Operand::FirstOfSub),
+            UnnamedSecondInSub: wrong::overlooks(self, Operand::SecondOfSub))
     }
 }
 
@@ -1412,15 +1471,21 @@ impl Ledger {
             OneToldSuffices: secrets.iter().any(told),
             FirstToldSuffices: told(&secrets[0]),
             NamedToldSuffice: secrets.iter().all(|it| told(it) || !wrong::names(condition, *it)),
+            UntoldServeAnyway: condition.counts() || secrets.iter().all(told),
             OldSetsServe: secrets.iter().all(|secret| wrong::told_anywhere(&self.sets, *secret)));
         // A condition names only listed secrets, and only a number can be told.
         let value = |secret: usize| match set[secret].value {
-            Value::Number(number) => number as i64,
+            Value::Number(number) => Some(number as i64),
             Value::IllFormed => rule!(unreachable!("an ill-formed commitment was told");
-                IllFormedTold: 0,
-                UntoldServe: 0),
+                IllFormedTold: Some(0),
+                UntoldServe: Some(0)),
         };
-        all_told && rule!(condition.holds(&value); ConditionsNotAsked: true)
+        let constant = || condition.holds(&|_| None).is_some();
+        all_told
+            && rule!(condition.holds(&value) == Some(true);
+                ConditionsNotAsked: true,
+                ConstantsNotAsked: constant() || condition.holds(&value) == Some(true),
+                ConstantsRefused: !constant() && condition.holds(&value) == Some(true))
     }
 
     /// Takes the event, or gives the number for which it is refused and leaves the ledger the same.
@@ -1629,12 +1694,14 @@ fn answer(request: &[u8], places: usize, bytes: usize) -> Result<Printed, Refusa
 fn judge_part(sheet: &Sheet, part: &LastPart, line: usize) -> Result<Printed, Refusal> {
     match part {
         LastPart::Make { participant } => {
-            let (text, rows) = made(sheet, *participant);
+            let (text, rows) = rule!(made(sheet, *participant);
+                OnlyTInMake: made(&wrong::only_t(sheet), *participant));
             Ok((text, buffer(&rows)))
         }
         LastPart::MakeAll => Ok(made_for_all(sheet)),
         LastPart::Check { participant, rows } => {
-            check(sheet, *participant, rows, line)?;
+            rule!(check(sheet, *participant, rows, line);
+                OnlyTInCheck: check(&wrong::only_t(sheet), *participant, rows, line))?;
             let given = rule!(String::new();
                 CheckPrintsRows: wrong::rows_as_text(rows.iter().copied()));
             Ok((given + &liquid(sheet, *participant, rows), buffer(rows)))
@@ -1678,7 +1745,14 @@ fn made_for_all(sheet: &Sheet) -> Printed {
         AllButTheLast: sheet.participants - 1,
         AllAndOneMore: sheet.participants + 1,
         AllSixteen: PARTICIPANTS as usize);
-    let mut answers: Vec<Made> = (0..count).map(|who| made(sheet, who)).collect();
+    let made = |who: usize| {
+        let plain = || made(&wrong::only_t(sheet), who);
+        rule!(made(sheet, who);
+            OnlyTInMakeAll: plain(),
+            OnlyTPastTheFirst: if who > 0 { plain() } else { made(sheet, who) },
+            OnlyTForTheFirst: if who == 0 { plain() } else { made(sheet, who) })
+    };
+    let mut answers: Vec<Made> = (0..count).map(made).collect();
     rule!(();
         AllBackwards: answers.reverse(),
         AllEndAtFrozen: answers.truncate(wrong::up_to_frozen(&answers)),

@@ -1,8 +1,9 @@
 //! The cases pin the rules: with each wrong rule of wrong.rs turned on, some case has another answer.
 
 use crate::cases::Case;
+use crate::generate::Generator;
 use crate::model::sheets::{read_sheet, write_sheet};
-use crate::model::wrong::{all, turn, Wrong, LARGE, OF_TABLES};
+use crate::model::wrong::{all, turn, Rule, Wrong, LARGE, OF_TABLES};
 use crate::model::{call, judge};
 use crate::{buffers, tables};
 use std::panic::{catch_unwind, set_hook, take_hook};
@@ -55,6 +56,23 @@ fn of_tables(wrong: &Wrong) -> bool {
     matches!(wrong, Wrong::More(limit) | Wrong::Fewer(limit) if OF_TABLES.contains(limit))
 }
 
+/// Of so many generated requests, this many in a hundred turn on which conditions count.
+const GENERATED: usize = 4_000;
+const SHARE: usize = 5;
+
+/// How many of the generated requests have another answer with the wrong rule.
+fn generated(wrong: Wrong) -> usize {
+    let other = |request: &Vec<u8>| {
+        let due = judge(request);
+        turn(Some(wrong));
+        let other = judge(request) != due;
+        turn(None);
+        other
+    };
+    let requests = Generator::new(1).take(GENERATED);
+    requests.filter(other).count()
+}
+
 /// `lists` are the cases of the lists, `large` those that are too long for them.  What no request shows is
 /// caught by `tables`, the cases of sheets as tables, or by `buffers`, those of lent buffers.
 pub fn test(
@@ -101,6 +119,11 @@ pub fn test(
         }
     }
     set_hook(hook);
+    let shown = generated(Wrong::Rule(Rule::OnlyT));
+    println!("  {shown} of {GENERATED} generated requests turn on conditions other than `t`");
+    if 100 * shown < SHARE * GENERATED {
+        failures.push(format!("under {SHARE} in a hundred of them"));
+    }
     for failure in &failures {
         println!("FAILED: {failure}");
     }

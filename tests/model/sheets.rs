@@ -5,12 +5,10 @@
 //! * [`write_sheet`] goes through the cells in the order of the text, asks of every number that it is
 //!   one that reading gives in that place, builds the tree and prints it.
 
-#[cfg(wrong_rules)]
-use super::wrong;
 use super::{
-    nowhere, Action, Branch, Condition, Definition, Expression, Node, Part, Reader, Refusal, Reply,
-    Sheet, BRANCHES, BRANCHES_OF_A_NODE, CONDITION_FIELDS, DEFINITIONS, DEPTH, NODES, PARTICIPANTS,
-    PARTS, REQUEST_BYTES, SATOSHI, SECRETS, SHEET_BYTES, TIME, VALUE, WEIGHT,
+    nowhere, wrong, Action, Branch, Condition, Definition, Expression, Node, Part, Reader, Refusal,
+    Reply, Sheet, BRANCHES, BRANCHES_OF_A_NODE, CONDITION_FIELDS, DEFINITIONS, DEPTH, NODES,
+    PARTICIPANTS, PARTS, REQUEST_BYTES, SATOSHI, SECRETS, SHEET_BYTES, TIME, VALUE, WEIGHT,
 };
 
 // ---------------------------------------------------------------------------------------------
@@ -193,7 +191,9 @@ impl Table {
                 next,
             } => {
                 self.listed.extend(secrets);
-                self.condition(condition);
+                self.condition(rule!(condition;
+                    HeldAsT: wrong::shortened(condition, true),
+                    HeldAsNotT: wrong::shortened(condition, false)));
                 [2, *next, first, secrets.len(), condition_at]
             }
             Action::Renew { definition } => [3, *definition, 0, 0, 0],
@@ -617,6 +617,9 @@ impl Sheet {
                     for secret in secrets {
                         *text += &format!(",{secret}");
                     }
+                    let condition = rule!(condition;
+                        WrittenAsT: wrong::shortened(condition, true),
+                        WrittenAsNotT: wrong::shortened(condition, false));
                     condition.put(text);
                     self.contract_text(*next, text);
                 }

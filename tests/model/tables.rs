@@ -232,6 +232,31 @@ fn table_of_s() -> Vec<usize> {
     )
 }
 
+/// A sheet with conditions that name no secret: true, false, true.
+const A: &str = "bitml,1,1\n\
+    def,1,1,0,c,3,0,0,r,1,0,eq,k,1,k,1,c,0,0,0,r,1,0,and,t,not,t,c,0,0,0,r,1,0,not,not,t,c,0\n";
+
+/// Each has a cell for each of its fields.
+fn table_of_a() -> Vec<usize> {
+    table(
+        [1, 1, 4, 3, 5, 12],
+        &[
+            [0, NO_BRANCH, 0, 3],
+            [0, 0, 0, 0],
+            [0, 1, 0, 0],
+            [0, 2, 0, 0],
+        ],
+        &[
+            [0, 0, 0, 2, 1, 2, 1, 0],
+            [0, 0, 0, 2, 2, 3, 1, 5],
+            [0, 0, 0, 2, 3, 4, 1, 9],
+        ],
+        &[[0, 0, 1]],
+        &[1, 0, 0, 0, 0],
+        &[3, 0, 1, 0, 1, 1, 0, 2, 0, 2, 2, 0],
+    )
+}
+
 /// The table that the model reads a text to, where it is too long to be written out.
 fn table_of(text: &str) -> Vec<usize> {
     let mut cells = vec![0; SHEET_CELLS];
@@ -265,6 +290,7 @@ fn reading(cases: &mut Cases) {
         ("N", N, table_of_n()),
         ("T", T, table_of_t()),
         ("S", S, table_of_s()),
+        ("A", A, table_of_a()),
     ] {
         cases.read(name, text, SHEET_CELLS, &table);
         let name = format!("{name} into a longer table");
@@ -334,7 +360,12 @@ fn refused_texts(cases: &mut Cases) {
 
 fn buffers(cases: &mut Cases) {
     let (t, s) = (table_of_t(), table_of_s());
-    for (name, text, table) in [("N", N, table_of_n()), ("T", T, t.clone()), ("S", S, s)] {
+    for (name, text, table) in [
+        ("N", N, table_of_n()),
+        ("T", T, t.clone()),
+        ("S", S, s),
+        ("A", A, table_of_a()),
+    ] {
         let length = text.len();
         cases.written(name, &table, length, text);
         cases.written(&format!("{name}, one byte left"), &table, length + 1, text);

@@ -2,8 +2,10 @@
 //!
 //! The model names them where they apply: `rule!(right; Name: wrong, ..)` for a rule, `limit!(Name, most)`
 //! for a limit, which is also tried one higher and one lower, and `lower!(one, other)` for the order of
-//! two refusals.  Without `--cfg wrong_rules` these are the right expression and nothing else is run.  With it
-//! one wrong rule at a time can be turned on, and pins.rs shows that some case then has another answer.
+//! two refusals.  `asking!(value)` marks where the value of a condition is asked for an own branch:
+//! the rules of conditions are tried there alone, in the ledger alone, and in both.  Without
+//! `--cfg wrong_rules` these are the right expression and nothing else is run.  With it one wrong rule
+//! at a time can be turned on, and pins.rs shows that some case then has another answer.
 
 use super::{
     exits, judge, Action, Branch, Commitment, Condition, Contract, Event, Expression, Made, Node,
@@ -24,6 +26,13 @@ macro_rules! limit {
 macro_rules! lower {
     ($one:expr, $other:expr) => {
         $one.min($other)
+    };
+}
+
+#[cfg(not(wrong_rules))]
+macro_rules! asking {
+    ($value:expr) => {
+        $value
     };
 }
 
@@ -51,6 +60,13 @@ macro_rules! lower {
 }
 
 #[cfg(wrong_rules)]
+macro_rules! asking {
+    ($value:expr) => {
+        wrong::ask(|| $value)
+    };
+}
+
+#[cfg(wrong_rules)]
 pub use switch::*;
 
 #[cfg(wrong_rules)]
@@ -61,6 +77,10 @@ mod switch {
     #[derive(Clone, Copy, Debug, PartialEq, Eq)]
     pub enum Wrong {
         Rule(Rule),
+        /// A rule of conditions, for own branches alone.
+        Asking(Rule),
+        /// A rule of conditions, in the ledger alone.
+        Firing(Rule),
         /// The limit is one higher.
         More(Limit),
         /// The limit is one lower.
@@ -71,6 +91,8 @@ mod switch {
 
     thread_local! {
         static ON: Cell<Option<Wrong>> = const { Cell::new(None) };
+        /// Is the value of a condition asked for an own branch?
+        static ASKING: Cell<bool> = const { Cell::new(false) };
     }
 
     /// The wrong rule that is on.
@@ -85,8 +107,18 @@ mod switch {
     pub fn rule() -> Option<Rule> {
         match on() {
             Some(Wrong::Rule(rule)) => Some(rule),
+            Some(Wrong::Asking(rule)) if ASKING.get() => Some(rule),
+            Some(Wrong::Firing(rule)) if !ASKING.get() => Some(rule),
             _ => None,
         }
+    }
+
+    /// The value of a condition that is asked for an own branch.
+    pub fn ask<T>(value: impl FnOnce() -> T) -> T {
+        ASKING.set(true);
+        let value = value();
+        ASKING.set(false);
+        value
     }
 
     /// The lower of two refusals, or the higher where just these two are in the wrong order.
@@ -104,7 +136,9 @@ mod switch {
         let limits = limits.flat_map(|limit| [Wrong::More(limit), Wrong::Fewer(limit)]);
         let orders = ORDERS.iter().map(|pair| Wrong::Order(pair.0, pair.1));
         let rules = Rule::ALL.iter().map(|(rule, _)| Wrong::Rule(*rule));
-        limits.chain(orders).chain(rules).collect()
+        let values = CONDITIONS.iter();
+        let values = values.flat_map(|rule| [Wrong::Asking(*rule), Wrong::Firing(*rule)]);
+        limits.chain(orders).chain(rules).chain(values).collect()
     }
 
     /// The words of a table for one of its names.
@@ -118,6 +152,8 @@ mod switch {
         pub fn says(&self) -> String {
             match self {
                 Wrong::Rule(rule) => words(Rule::ALL, rule).to_string(),
+                Wrong::Asking(rule) => format!("for own branches {}", words(Rule::ALL, rule)),
+                Wrong::Firing(rule) => format!("in the ledger {}", words(Rule::ALL, rule)),
                 Wrong::More(limit) => format!("{}, and one more", words(Limit::ALL, limit)),
                 Wrong::Fewer(limit) => format!("{}, but one", words(Limit::ALL, limit)),
                 Wrong::Order(first, second) => format!("{first} comes before {second}"),
@@ -264,6 +300,35 @@ mod switch {
         Limit::TableCells,
     ];
 
+    /// The rules by which a condition has its value.
+    const CONDITIONS: &[Rule] = &[
+        Rule::AddIsSub,
+        Rule::AddIsFirst,
+        Rule::AddIsSecond,
+        Rule::AddIn32Bits,
+        Rule::AddStops,
+        Rule::SubIsAdd,
+        Rule::SubIsFirst,
+        Rule::SubIsSecond,
+        Rule::SubAbsolute,
+        Rule::SubClipped,
+        Rule::SubTurned,
+        Rule::TrueIsFalse,
+        Rule::AndIsOr,
+        Rule::AndIsLeft,
+        Rule::AndIsRight,
+        Rule::NotIsNothing,
+        Rule::EqIsUnequal,
+        Rule::EqIsAtMost,
+        Rule::EqIsAtLeast,
+        Rule::EqOfSizes,
+        Rule::LtIsGreater,
+        Rule::LtIsAtMost,
+        Rule::LtIsUnequal,
+        Rule::LtUnsigned,
+        Rule::LtOfSizes,
+    ];
+
     table! { Rule:
         // fields and lines
         PlusSign "a number may have a plus sign"
@@ -357,7 +422,42 @@ mod switch {
         SplitsNotOwn "`s` is not own"
         RevealsNotOwn "`r` is not own"
         AnyCondition "own with any condition"
-        TrueConditions "own with any condition that is true for zeros"
+        OnlyT "own only with the one field `t`"
+        OnlyTInMake "own for `make` only with the one field `t`"
+        OnlyTInCheck "own for `check` only with the one field `t`"
+        OnlyTInMakeAll "own for `makeall` only with the one field `t`"
+        OnlyTForTheFirst "own to participant 0 of `makeall` only with the one field `t`"
+        OnlyTPastTheFirst "own to others of `makeall` only with the one field `t`"
+        ComparedCountOnly "of conditions only `t` and comparisons of two constants count"
+        SumsDoNotCount "a condition with a sum or a difference doesn't count"
+        LongestDoNotCount "a condition of 64 fields doesn't count"
+        FalseCounts "a condition that names no secret counts, true or false"
+        TrueForZeros "a condition that is true for zeros counts"
+        TrueForOnes "a condition that is true for ones counts"
+        TrueForAll "a condition that is true whatever the secrets are counts"
+        TrueForTheirNumbers "`v` is a constant, the number of the secret"
+        SecretZeroOverlooked "`v` of secret 0 names none"
+        OneIsNamed "a constant 1 is taken for a `v`"
+        OneOrAndIsNamed "a constant 1 or an `and` is taken for a `v`"
+        FalseAndDecides "a `v` behind a false first part of an `and` is overlooked"
+        FalseBehindDecides "a `v` before a false second part of an `and` is overlooked"
+        UnnamedInNot "a `v` below a `not` is overlooked"
+        UnnamedFirstInAnd "a `v` in the first part of an `and` is overlooked"
+        UnnamedSecondInAnd "a `v` in the second part of an `and` is overlooked"
+        UnnamedFirstInEq "a `v` on the first side of an `eq` is overlooked"
+        UnnamedSecondInEq "a `v` on the second side of an `eq` is overlooked"
+        UnnamedFirstInLt "a `v` on the first side of an `lt` is overlooked"
+        UnnamedSecondInLt "a `v` on the second side of an `lt` is overlooked"
+        UnnamedFirstInAdd "a `v` on the first side of an `add` is overlooked"
+        UnnamedSecondInAdd "a `v` on the second side of an `add` is overlooked"
+        UnnamedFirstInSub "a `v` on the first side of a `sub` is overlooked"
+        UnnamedSecondInSub "a `v` on the second side of a `sub` is overlooked"
+        CountsInDefinition0 "conditions other than `t` count in definition 0 alone"
+        CountsAtRoots "conditions other than `t` count at roots alone"
+        CountsByTheFirst "the condition of the first `r` decides for all"
+        SignersIgnoredAnyway "own whoever signs if a condition other than `t` counts"
+        OwnersIgnoredAnyway "own with anyone's secrets if the condition is not `t`"
+        OneOwnedSufficesAnyway "own if one of the secrets is P's and the condition is not `t`"
         OwnersIgnored "own with anyone's secrets"
         OneOwnedSuffices "own if one of the secrets is P's"
         FirstOwnedSuffices "own if the first secret is P's"
@@ -373,6 +473,7 @@ mod switch {
         OpenBranchesOnly "only branches with opening time 0 lead to reached nodes"
         UnsignedBranchesOnly "only branches with no signers lead to reached nodes"
         RenewalsNotFollowed "renewals don't lead to reached nodes"
+        FalseNotFollowed "branches that are never true don't lead to reached nodes"
         MadeForTheFirst "`make` is for participant 0"
         MadeWithout1 "a made rank is the sum alone"
         MadeByLargest "a made rank is 1 + the largest"
@@ -417,6 +518,7 @@ mod switch {
         RootAtTheFirstRow "11 for the root is told on the line after `check`"
         RowsOfTheBranchOnly "only contracts of the row's own branch need rows"
         RowsOfOwnOnly "only contracts of own branches need rows"
+        RowsOfFalseNotAsked "contracts of branches that are never true need no rows"
         RowsOfRenewalsNotAsked "roots that are renewed as need no rows"
         RankByLargest "a rank is at least 1 + the largest"
         RankByPublished "a rank is at least 1 + the sum of the least ranks"
@@ -435,8 +537,13 @@ mod switch {
         NodesCounted "`liquid` counts the nodes"
         // conditions
         AddIsSub "`add` subtracts"
+        AddIsFirst "`add` is its first"
+        AddIsSecond "`add` is its second"
         AddIn32Bits "sums wrap at 32 bits"
+        AddStops "sums stop at 1,000,000,000"
         SubIsAdd "`sub` adds"
+        SubIsFirst "`sub` is its first"
+        SubIsSecond "`sub` is its second"
         SubAbsolute "a difference is never negative but turned"
         SubClipped "a difference stops at 0"
         SubTurned "`sub` takes the first from the second"
@@ -448,9 +555,12 @@ mod switch {
         EqIsUnequal "`eq` is unequal"
         EqIsAtMost "`eq` is at most"
         EqIsAtLeast "`eq` is at least"
+        EqOfSizes "`eq` leaves the sign out"
         LtIsGreater "`lt` is greater"
         LtIsAtMost "`lt` is at most"
         LtIsUnequal "`lt` is unequal"
+        LtUnsigned "for `lt` a negative number is above all others"
+        LtOfSizes "`lt` leaves the sign out"
         // the ledger
         FirstDepositOnly "contract 0 has the first deposit alone"
         StipulatedAsTheLast "contract 0 is at the root of the last definition"
@@ -504,7 +614,10 @@ mod switch {
         OneToldSuffices "one told secret of an `r` suffices"
         FirstToldSuffices "the first secret of an `r` suffices"
         NamedToldSuffice "the secrets that the condition names suffice"
+        UntoldServeAnyway "untold secrets serve where the condition holds anyway"
         ConditionsNotAsked "a false condition serves"
+        ConstantsNotAsked "a false condition serves if it names no secret"
+        ConstantsRefused "a condition that names no secret doesn't serve"
         RefusedFiringsKill "a refused firing kills the contract"
         RefusedWaitsMove "a refused wait moves the time to its limit"
         PartsOfTheFirstSet "parts have set 0"
@@ -578,6 +691,10 @@ mod switch {
         RevealedNotAsked "the node of an `r`'s contract is not looked at"
         OtherWordsAreLt "a word of a condition above 4 is `lt`"
         OtherWordsAreSub "a word of an expression above 3 is `sub`"
+        HeldAsT "a table has `t` for a condition that holds anyway"
+        HeldAsNotT "a table has `not`,`t` for a condition that fails anyway"
+        WrittenAsT "`t` is written for a condition that holds anyway"
+        WrittenAsNotT "`not`,`t` is written for a condition that fails anyway"
         // lent buffers
         ShortBuffersFirst "short buffers come before 1"
         ShortBuffersAfter "short buffers are told after reading"
@@ -751,24 +868,176 @@ pub fn held(contracts: &[Contract]) -> u64 {
     live.map(|contract| contract.balance).sum()
 }
 
+/// All expressions of a condition, those within others too.
+fn expressions(condition: &Condition) -> Vec<&Expression> {
+    let mut found = match condition {
+        Condition::True => Vec::new(),
+        Condition::And(left, right) => [expressions(left), expressions(right)].concat(),
+        Condition::Not(part) => expressions(part),
+        Condition::Equal(left, right) | Condition::Less(left, right) => vec![left, right],
+    };
+    let mut place = 0;
+    while place < found.len() {
+        if let Expression::Add(left, right) | Expression::Subtract(left, right) = found[place] {
+            found.extend([&**left, &**right]);
+        }
+        place += 1;
+    }
+    found
+}
+
 /// Does the condition name this secret?
 pub fn names(condition: &Condition, secret: usize) -> bool {
-    fn within(expression: &Expression, secret: usize) -> bool {
-        match expression {
-            Expression::Constant(_) => false,
-            Expression::Secret(named) => *named == secret,
-            Expression::Add(left, right) | Expression::Subtract(left, right) => {
-                within(left, secret) || within(right, secret)
+    let named = |expression: &&Expression| **expression == Expression::Secret(secret);
+    expressions(condition).iter().any(named)
+}
+
+// Conditions that hold anyway.
+
+/// `t`, or a comparison of two constants?
+pub fn is_flat(condition: &Condition) -> bool {
+    let constant = |side: &Expression| matches!(side, Expression::Constant(_));
+    match condition {
+        Condition::True => true,
+        Condition::Equal(left, right) | Condition::Less(left, right) => {
+            constant(left) && constant(right)
+        }
+        Condition::And(..) | Condition::Not(_) => false,
+    }
+}
+
+pub fn has_sums(condition: &Condition) -> bool {
+    let is_sum = |it: &Expression| matches!(it, Expression::Add(..) | Expression::Subtract(..));
+    expressions(condition).into_iter().any(is_sum)
+}
+
+/// In a table `v` has the code 1: has a constant, or perhaps an `and`, the same?
+pub fn has_one(condition: &Condition, also_and: bool) -> bool {
+    fn has_and(condition: &Condition) -> bool {
+        match condition {
+            Condition::And(..) => true,
+            Condition::Not(part) => has_and(part),
+            _ => false,
+        }
+    }
+    let is_one = |it: &Expression| *it == Expression::Constant(1);
+    expressions(condition).into_iter().any(is_one) || also_and && has_and(condition)
+}
+
+/// The value where a false part of an `and`, the first or the second, decides it whatever the other
+/// names.
+pub fn lazily(condition: &Condition, decides: [bool; 2]) -> Option<bool> {
+    match condition {
+        Condition::And(left, right) => {
+            let parts = [left, right].map(|part| lazily(part, decides));
+            let decided = |place: usize| decides[place] && parts[place] == Some(false);
+            if decided(0) || decided(1) {
+                return Some(false);
+            }
+            Some(parts[0]? && parts[1]?)
+        }
+        Condition::Not(part) => Some(!lazily(part, decides)?),
+        _ => condition.holds(&|_| None),
+    }
+}
+
+/// Where a part of a condition stands.
+#[derive(Clone, Copy, PartialEq, Eq)]
+pub enum Operand {
+    OfNot,
+    FirstOfAnd,
+    SecondOfAnd,
+    FirstOfEq,
+    SecondOfEq,
+    FirstOfLt,
+    SecondOfLt,
+    FirstOfAdd,
+    SecondOfAdd,
+    FirstOfSub,
+    SecondOfSub,
+}
+
+/// Does it name no secret but in these operands, and is it true with 0 for those?
+pub fn overlooks(condition: &Condition, overlooked: Operand) -> bool {
+    !notices(condition, overlooked) && condition.holds(&|_| Some(0)) == Some(true)
+}
+
+fn notices(condition: &Condition, overlooked: Operand) -> bool {
+    let part = |part, operand| operand != overlooked && notices(part, overlooked);
+    let side = |side, operand| operand != overlooked && notices_in(side, overlooked);
+    match condition {
+        Condition::True => false,
+        Condition::Not(only) => part(only, Operand::OfNot),
+        Condition::And(left, right) => {
+            part(left, Operand::FirstOfAnd) || part(right, Operand::SecondOfAnd)
+        }
+        Condition::Equal(left, right) => {
+            side(left, Operand::FirstOfEq) || side(right, Operand::SecondOfEq)
+        }
+        Condition::Less(left, right) => {
+            side(left, Operand::FirstOfLt) || side(right, Operand::SecondOfLt)
+        }
+    }
+}
+
+fn notices_in(expression: &Expression, overlooked: Operand) -> bool {
+    let side = |side, operand| operand != overlooked && notices_in(side, overlooked);
+    match expression {
+        Expression::Constant(_) => false,
+        Expression::Secret(_) => true,
+        Expression::Add(left, right) => {
+            side(left, Operand::FirstOfAdd) || side(right, Operand::SecondOfAdd)
+        }
+        Expression::Subtract(left, right) => {
+            side(left, Operand::FirstOfSub) || side(right, Operand::SecondOfSub)
+        }
+    }
+}
+
+/// The condition of an `r`.
+fn condition_of(branch: &Branch) -> Option<&Condition> {
+    match &branch.action {
+        Action::Reveal { condition, .. } => Some(condition),
+        _ => None,
+    }
+}
+
+/// Has the branch a condition other than `t` that counts?
+pub fn is_other(branch: &Branch) -> bool {
+    condition_of(branch).is_some_and(|it| *it != Condition::True && it.counts())
+}
+
+/// Has the branch a condition that names no secret and is false?
+pub fn is_false(branch: &Branch) -> bool {
+    condition_of(branch).is_some_and(|condition| condition.holds(&|_| None) == Some(false))
+}
+
+/// The condition of the first `r` of a sheet.
+pub fn first_condition(sheet: &Sheet) -> Option<&Condition> {
+    let mut branches = sheet.nodes.iter().flat_map(|node| &node.branches);
+    branches.find_map(condition_of)
+}
+
+/// The sheet with a false condition for each that is not `t`.
+pub fn only_t(sheet: &Sheet) -> Sheet {
+    let mut sheet = sheet.clone();
+    for branch in sheet.nodes.iter_mut().flat_map(|node| &mut node.branches) {
+        if let Action::Reveal { condition, .. } = &mut branch.action {
+            if *condition != Condition::True {
+                *condition = Condition::Not(Box::new(Condition::True));
             }
         }
     }
-    match condition {
-        Condition::True => false,
-        Condition::And(left, right) => names(left, secret) || names(right, secret),
-        Condition::Not(part) => names(part, secret),
-        Condition::Equal(left, right) | Condition::Less(left, right) => {
-            within(left, secret) || within(right, secret)
-        }
+    sheet
+}
+
+/// `t` or `not`,`t` for a condition that names no secret and has this value.
+pub fn shortened(condition: &Condition, value: bool) -> &Condition {
+    static NOT_T: std::sync::OnceLock<Condition> = std::sync::OnceLock::new();
+    match condition.holds(&|_| None) {
+        Some(true) if value => &Condition::True,
+        Some(false) if !value => NOT_T.get_or_init(|| Condition::Not(Box::new(Condition::True))),
+        _ => condition,
     }
 }
 
@@ -782,11 +1051,8 @@ pub fn backwards(signers: u64, participants: usize) -> u64 {
 /// The fields of all conditions of these nodes.
 pub fn condition_fields(nodes: &[Node]) -> usize {
     let branches = nodes.iter().flat_map(|node| &node.branches);
-    let fields = branches.map(|branch| match &branch.action {
-        Action::Reveal { condition, .. } => condition.fields(),
-        _ => 0,
-    });
-    fields.sum()
+    let conditions = branches.filter_map(condition_of);
+    conditions.map(Condition::fields).sum()
 }
 
 pub fn tell_every_secret(set: &mut [Commitment]) {

@@ -4,8 +4,8 @@ use Prim.Native.Nat.{ℕ, _+_}
 use mathlib.Core.Bool.{true, false, not, false≢true}
 use mathlib.Core.List.{List, [], _∷_, map}
 use Rattle.bitml.specs.Lists.{sum, All, nil, cons}
-use Rattle.bitml.specs.Sheet.{Sheet, Part, Branch, Action, withdraw, split, reveal, renewAs, nodeAt, defAt, parts, Cond, always, both, neg, equal, less, holds}
-use Rattle.bitml.specs.Runs.{next, ownAction, own, isAlways}
+use Rattle.bitml.specs.Sheet.{Sheet, Part, Branch, Action, withdraw, split, reveal, renewAs, nodeAt, defAt, parts}
+use Rattle.bitml.specs.Runs.{next, ownAction, own}
 use Rattle.bitml.specs.Rows.{Row, rankOf}
 use Rattle.bitml.specs.Ledger.{Contract, newContract, isRenewal, renewedAs, splitting, making}
 use Rattle.bitml.specs.Liquidity.{liveRank}
@@ -35,13 +35,6 @@ own-not-renewal s p n (renewAs d) e = e
 -- so what takes the node's place by an own branch are its contracts
 pub own-parts : (s : Sheet) (p n : ℕ) (br : Branch) → own s p n br ≡ true → next s (br .action) ≡ parts (br .action)
 own-parts s p n br e = parts-next s (br .action) (own-not-renewal s p (nodeAt s n .definition) (br .action) (and-r _ _ e))
-
-pub always-holds : (v : ℕ → ℕ) (c : Cond) → isAlways c ≡ true → holds v c ≡ true
-always-holds v always e = refl
-always-holds v (both c d) e = absurd (false≢true e)
-always-holds v (neg c) e = absurd (false≢true e)
-always-holds v (equal c d) e = absurd (false≢true e)
-always-holds v (less c d) e = absurd (false≢true e)
 
 -- The contracts that firing makes have the nodes of the branch and the old set
 pub making-all : (Q : Contract → Type 0) (k : Contract) (a : Action) → All (λ m. (v : ℕ) → Q (newContract m v (k .set))) (parts a) → All Q (making k a)

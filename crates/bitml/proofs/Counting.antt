@@ -3,10 +3,10 @@ use mathlib.Core.Path.{_≡_, refl, sym, ap, ap₂, _∙_}
 use Prim.Native.Nat.{ℕ, zero, suc, _+_, _-_, _≤_, _<_}
 use native.Mathlib.Omega.{arith}
 use mathlib.Core.Bool.{Bool, true, false, cond, false≢true}
-use mathlib.Core.List.{List, [], _∷_, _++_, append-nil, List·Memᴰ, List·Memᴰ·head, List·Memᴰ·tail}
+use mathlib.Core.List.{List, [], _∷_, _++_, map, append-nil, List·Memᴰ, List·Memᴰ·head, List·Memᴰ·tail}
 use lib.ListN.{length, getD, set}
-use Rattle.bitml.specs.Lists.{keep, gather, All, upFrom, below}
-use Rattle.bitml.proofs.Lists.{all-head, all-tail, gather-append}
+use Rattle.bitml.specs.Lists.{every, keep, gather, All, upFrom, below}
+use Rattle.bitml.proofs.Lists.{and-false, and-true, all-head, all-tail, gather-append}
 
 -- a store, at an index in range, and elsewhere
 pub at-store : {A : Type 0} (Q : A → Type 0) (xs : List A) (i j : ℕ) (y d : A) → i < length xs → ((j ≡ i → ⊥) → Q (getD xs j d)) → (j ≡ i → Q y) → Q (getD (set xs i y) j d)
@@ -78,6 +78,18 @@ up-one i n h = up-next i (n - i) (n - (i + 1)) (omega arith) ∙ ap (λ b. i ∷
 
 pub up-end : (i n : ℕ) → n ≤ i → upFrom i (n - i) ≡ []
 up-end i n h = let z : n - i ≡ 0 = omega arith in rw z
+
+-- ---- a test of all that stands at the numbers from a + i up to a + n
+
+module _ (T : ℕ → Bool) (f : ℕ → ℕ) (a i n : ℕ) where
+  pub every-bad : i < n → T (f (a + i)) ≡ false → every T (map f (upFrom (a + i) (n - i))) ≡ false
+  every-bad h e = ap (λ xs. every T (map f xs)) (up-more a i n h) ∙ and-false _ _ e
+
+  pub every-good : i < n → T (f (a + i)) ≡ true → every T (map f (upFrom (a + i) (n - i))) ≡ every T (map f (upFrom (a + (i + 1)) (n - (i + 1))))
+  every-good h e = ap (λ xs. every T (map f xs)) (up-more a i n h) ∙ and-true _ _ e
+
+  pub every-end : n ≤ i → every T (map f (upFrom (a + i) (n - i))) ≡ true
+  every-end h = ap (λ xs. every T (map f xs)) (up-none a i n h)
 
 -- ---- what is gathered for the numbers below n
 

@@ -1,5 +1,6 @@
 -- All that specs/Demands states. Assumes nothing.
 use Rattle.bitml.specs.Demands.{Demands}
+use Rattle.bitml.proofs.Conditions.{counts-always}
 use Rattle.bitml.proofs.Trees.{exit-is-tree}
 use Rattle.bitml.proofs.Exits.{ranked-exit, exit-ranked}
 use Rattle.bitml.proofs.Best.{rank-is-best}
@@ -12,6 +13,7 @@ use Rattle.bitml.proofs.Liquidity.{liquidity}
 pub demands : Demands
 demands =
     record {
+      counts-always = counts-always;
       exit-is-tree = exit-is-tree;
       rank-is-exit = λ s wf p n. (ranked-exit s wf p n, exit-ranked s wf p n);
       rank-is-best = rank-is-best;

@@ -10,7 +10,7 @@ use borrow.Author.Tests.{eqb-true, ltb-true, lt-ltb, le-ltb}
 use Rattle.bitml.specs.Lists.{_&_, every, below, All, nil, cons}
 use Rattle.bitml.specs.Sheet.{Sheet, Branch, Action, withdraw, split, reveal, renewAs, noNode, nodeAt, noBranch, branchesAt, branchAt, defAt, parts}
 use Rattle.bitml.specs.Promises.{WellFormed}
-use Rattle.bitml.specs.Stars.{branch, node, halves, sheet, T, M, D, R, Seven, Promised}
+use Rattle.bitml.specs.Stars.{branch, node, halves, sheet, T, M, D, R, On, Seven, Promised}
 use Rattle.bitml.proofs.Lists.{and-l, and-r, every-mem, every-at, in-range, mem-up}
 
 abbrev renewsIn : ℕ → Action → Bool
@@ -64,6 +64,7 @@ module _ (s : Sheet) (f : formed s ≡ true) where
       }
 
 pub promised : Promised
-unfolding Promised formed T M D R Seven sheet node branch halves _&_
-promised =
-    cons (well-formed T refl) (cons (well-formed M refl) (cons (well-formed D refl) (cons (well-formed R refl) (cons (well-formed Seven refl) nil))))
+unfolding Promised formed T M D R On Seven sheet node branch halves _&_
+promised c =
+    cons (well-formed T refl) (cons (well-formed M refl) (cons (well-formed D refl) (cons (well-formed R refl)
+    (cons (well-formed (On c) refl) (cons (well-formed Seven refl) nil)))))

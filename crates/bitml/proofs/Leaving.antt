@@ -15,7 +15,8 @@ use Rattle.bitml.specs.Ledger.{Ledger, Contract, Commitment, ill, kept, 
 use Rattle.bitml.specs.Promises.{WellFormed}
 use Rattle.bitml.specs.Liquidity.{liveRank, Way}
 use Rattle.bitml.proofs.Lists.{and-l, and-r, and-i, or-l, cover, imp-i, imp-no-l, imp-no-r, ask-i, every-imp, in-range, sum-append, sum-set}
-use Rattle.bitml.proofs.Actions.{own-not-renewal, always-holds, making-rank}
+use Rattle.bitml.proofs.Conditions.{counts-always}
+use Rattle.bitml.proofs.Actions.{own-not-renewal, making-rank}
 use Rattle.bitml.proofs.Ways.{stay, act, also}
 use Rattle.bitml.proofs.Commitments.{wellFormed, NumbersHeld, held-tell, told-stays, told-after}
 use Rattle.bitml.proofs.Invariant.{Served, Fits, kinds, Inv, fit-at, inv-after}
@@ -80,7 +81,7 @@ module _ (s : Sheet) (wf : WellFormed s) (p : ℕ) (R : List Row) (ok : Accepted
     reveal-all : (a : Action) → ownAction s p (nodeAt s n .definition) a ≡ true → (l : Ledger) → At c n i m l → Way s p l (Revealed a) 0
     reveal-all (withdraw r) o l q = stay (q, refl)
     reveal-all (split qs) o l q = stay (q, refl)
-    reveal-all (reveal js d k) o l q = also (tell-all js l q (and-l _ _ o)) (λ l′ q′. stay (q′ .0, and-i _ _ (q′ .1) (always-holds _ d (and-r _ _ o))))
+    reveal-all (reveal js d k) o l q = also (tell-all js l q (and-l _ _ o)) (λ l′ q′. stay (q′ .0, and-i _ _ (q′ .1) (counts-always d .0 (and-r _ _ o) .1 _)))
     reveal-all (renewAs d) o l q = stay (q, refl)
 
     -- ---- by a branch that none but p signs, that is no renewal and asks for nothing that is not revealed

@@ -1,4 +1,5 @@
 pub mod Lists
+pub mod Conditions
 pub mod Actions
 pub mod Exits
 pub mod Trees

@@ -6,8 +6,8 @@ use mathlib.Core.Bool.{true}
 use mathlib.Core.List.{List, [], _∷_, map}
 use lib.ListN.{length}
 use Rattle.bitml.specs.Lists.{sum, All}
-use Rattle.bitml.specs.Sheet.{Sheet, branchesAt, branchAt, parts}
-use Rattle.bitml.specs.Runs.{Reached, own, Exit, ExitTree, Liquid}
+use Rattle.bitml.specs.Sheet.{Sheet, Cond, holds, branchesAt, branchAt, parts}
+use Rattle.bitml.specs.Runs.{Reached, closed, countsAlways, own, Exit, ExitTree, Liquid}
 use Rattle.bitml.specs.Rows.{Row, has, rankOf, Distinct, Accepted, FaultAt, check}
 use Rattle.bitml.specs.Rule.{rankAt, reached, rowFor, rows, liquid, frozen, make}
 use Rattle.bitml.specs.Promises.{WellFormed}
@@ -50,6 +50,8 @@ pub record Published (s : Sheet) (p : ℕ) (R : List Row) : Type 0 where
   pub each : All (Best s p (rankOf R)) R
 
 pub record Demands : Type 0 where
+  -- A condition counts as `t` exactly when it names no secret and is true, whatever the values
+  pub counts-always : (c : Cond) → (countsAlways c ≡ true) ↔ ((closed c ≡ true) × ((v : ℕ → ℕ) → holds v c ≡ true))
   -- An exit by runs is one by trees
   pub exit-is-tree : (s : Sheet) (p n : ℕ) → Exit s p n ↔ ExitTree s p n
   -- A rank is nonzero exactly where the node has an exit by runs; and then it is the published one

@@ -6,7 +6,7 @@ use mathlib.Core.List.{List, [], _∷_, _++_, map, List·Memᴰ}
 use lib.ListN.{length}
 use lib.Dec.{eqb}
 use Rattle.bitml.specs.Lists.{_&_, _⇒_, every, below}
-use Rattle.bitml.specs.Sheet.{Sheet, Branch, Cond, always, both, neg, equal, less, Action, withdraw, split, reveal, renewAs, nodeAt, defAt, branchesAt, branchAt, signs, owns}
+use Rattle.bitml.specs.Sheet.{Sheet, Branch, Expr, number, secret, add, sub, Cond, always, both, neg, equal, less, holds, Action, withdraw, split, reveal, renewAs, nodeAt, defAt, branchesAt, branchAt, signs, owns}
 
 -- "`w` by nothing, `s` by its n contracts, `r` by its contract, `g` by the root of d"
 abbrev pub next : Sheet → Action → List ℕ
@@ -36,19 +36,30 @@ pub record Reached (s : Sheet) (n : ℕ) : Type 0 where
 abbrev pub onlySigner : Sheet → ℕ → Branch → Bool
 onlySigner s p br = every (λ q. signs br q ⇒ eqb q p) (below (s .participants))
 
--- "whose condition is the one field `t`"
-abbrev pub isAlways : Cond → Bool
-isAlways always = true
-isAlways (both p q) = false
-isAlways (neg p) = false
-isAlways (equal e f) = false
-isAlways (less e f) = false
+-- "a condition that names no secret": no `v` stands anywhere in it, also not where it can't matter
+abbrev pub closedExpr : Expr → Bool
+closedExpr (number k) = true
+closedExpr (secret j) = false
+closedExpr (add e f) = closedExpr e & closedExpr f
+closedExpr (sub e f) = closedExpr e & closedExpr f
 
--- "with `w`, `s`, or an `r` whose secrets P owns all ..", in definition d. "`g` is never own, even with K = 1"
+abbrev pub closed : Cond → Bool
+closed always = true
+closed (both p q) = closed p & closed q
+closed (neg p) = closed p
+closed (equal e f) = closedExpr e & closedExpr f
+closed (less e f) = closedExpr e & closedExpr f
+
+-- "a condition that names no secret and is true counts as `t` when asking whether a branch is own": it asks for no value, so that any
+-- serve to tell its truth
+unfoldable pub countsAlways : Cond → Bool
+countsAlways c = closed c & holds (λ j. 0) c
+
+-- "with `w`, `s`, or an `r` whose secrets P owns all" and whose condition counts as `t`, in definition d. "`g` is never own, even with K = 1"
 abbrev pub ownAction : Sheet → ℕ → ℕ → Action → Bool
 ownAction s p d (withdraw q) = true
 ownAction s p d (split ps) = true
-ownAction s p d (reveal js c n) = every (owns s p d) js & isAlways c
+ownAction s p d (reveal js c n) = every (owns s p d) js & countsAlways c
 ownAction s p d (renewAs e) = false
 
 -- Branch br of node n is own to p

@@ -6,7 +6,7 @@ use mathlib.Core.Option.{some as the}
 use mathlib.Core.List.{List, [], _∷_, _++_, map}
 use lib.ListN.{replicate}
 use Rattle.bitml.specs.Lists.{All}
-use Rattle.bitml.specs.Sheet.{Sheet, Node, Branch, Action, withdraw, split, reveal, renewAs, always}
+use Rattle.bitml.specs.Sheet.{Sheet, Node, Branch, Action, withdraw, split, reveal, renewAs, Cond, always, equal, less, number, secret}
 use Rattle.bitml.specs.Rows.{Row}
 use Rattle.bitml.specs.Ledger.{wait, sign, tell, fire, renew}
 use Rattle.bitml.specs.Promises.{WellFormed}
@@ -52,6 +52,10 @@ R =
     (node (branch 0 0 (renewAs 0) ∷ branch 0 0 (reveal (0 ∷ []) always 1) ∷ branch 0 500 (withdraw 1) ∷ [])
     ∷ node (branch 0 0 (withdraw 0) ∷ []) ∷ [])
 
+-- "conditions such as `eq,k,1,k,1`": a branch under condition c
+unfoldable pub On : Cond → Sheet
+On c = sheet (1 ∷ 0 ∷ []) (0 ∷ []) (node (branch 0 0 (reveal (0 ∷ []) c 1) ∷ []) ∷ node (branch 0 0 (withdraw 0) ∷ []) ∷ [])
+
 -- "balance 7, weights 1 and 1"
 unfoldable pub Seven : Sheet
 Seven = sheet (7 ∷ 0 ∷ []) [] (node (branch 0 0 (halves 1 2) ∷ []) ∷ node (branch 0 0 (withdraw 0) ∷ []) ∷ node (branch 0 0 (withdraw 1) ∷ []) ∷ [])
@@ -89,6 +93,10 @@ cases =
     ∷ (makingAll D, printed (frozenLine 0 0 ∷ frozenLine 1 0 ∷ []) (replicate 1024 (row 0 0 0)))
     -- ★9
     ∷ (making R 0, listed (row 0 2 1 ∷ row 1 0 1 ∷ []) (liquidLine 0 2 1))
+    -- a condition that is true and names no secret, one that is false, one that is true and names a secret
+    ∷ (making (On (equal (number 1) (number 1))) 0, listed (row 0 0 2 ∷ row 1 0 1 ∷ []) (liquidLine 0 2 2))
+    ∷ (making (On (less (number 1) (number 1))) 0, printed (frozenLine 0 0 ∷ []) [])
+    ∷ (making (On (equal (secret 0) (secret 0))) 0, printed (frozenLine 0 0 ∷ []) [])
     -- ★10
     ∷ (
       playing T (none ∷ []) (wait 499 ∷ fire 0 1 ∷ wait 1 ∷ fire 0 1 ∷ []),
@@ -118,6 +126,6 @@ cases =
 unfoldable pub Stars : Type 0
 Stars = All (λ (c : Case). answer (c .0) ≡ c .1) cases
 
--- The sheets keep the promises, so that what is proved of such sheets speaks of them
+-- The sheets keep the promises, whatever the condition, so that what is proved of such sheets speaks of them
 unfoldable pub Promised : Type 0
-Promised = All WellFormed (T ∷ M ∷ D ∷ R ∷ Seven ∷ [])
+Promised = (c : Cond) → All WellFormed (T ∷ M ∷ D ∷ R ∷ On c ∷ Seven ∷ [])

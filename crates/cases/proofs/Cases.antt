@@ -25,6 +25,7 @@ use Rattle.bitml.specs.Answers as answers
 use Rattle.bitml.specs.Ledger as ledger
 use Rattle.bitml.specs.Limits as limits
 use Rattle.bitml.specs.Lists.{_&_, _or_, _⇒_, ask, All, nil, cons}
+use Rattle.bitml.specs.Runs as runs
 use Rattle.bitml.specs.Rows as rows
 use Rattle.bitml.specs.Rule as rule
 use Rattle.texts.specs.Text as text
@@ -38,6 +39,7 @@ use Rattle.cases.specs.Cases.Conditions as conditions-cases
 use Rattle.cases.specs.Cases.LastPart as last-part-cases
 use Rattle.cases.specs.Cases.Parties as parties-cases
 use Rattle.cases.specs.Cases.Runs as runs-cases
+use Rattle.cases.specs.Cases.Anyway as anyway-cases
 use Rattle.cases.specs.Cases.Rows as rows-cases
 use Rattle.cases.specs.Cases.Ledger as ledger-cases
 use Rattle.cases.specs.Cases.Limits as limits-cases
@@ -84,6 +86,7 @@ unfolding allPass printTest laidOut sameText copies byte T M D R N W tie printed
     request.refusedAt request.fromRows request.fromLines request.fromPart request.fromSheet request.readRequest
     answers.liquidBy answers.madeLines answers.madeRows answers.madeBy answers.padded answers.madeForAll answers.checkedBy answers.eventLine answers.eventLines answers.endOf answers.playLines answers.answer ledger.refusal ledger.after ledger.stipulated limits.depositsTaken limits.within limits.limitedRefusal limits.limitedStep limits.answers limits.limitedPlay values.valueOf values.behind values.valuesOf played-events.eventOf played-events.eventsUpTo played-events.eventsOf
     _&_ _or_ _⇒_ ask
+    runs.countsAlways
     rows.repeated rows.rowFault rows.faulty rows.check
     rule.costOf rule.cost rule.better rule.choose rule.choices rule.choiceAt rule.round rule.rounds rule.reached rule.rowFor rule.rows rule.stuck rule.make
     text.digits text.decimal text.field text.fields text.line text.lineText text.linesText
@@ -142,6 +145,10 @@ pub runs-hold : passed runs-cases.cases ≡ true
 unfolding passed runs-cases.owners runs-cases.cases
 runs-hold = refl
 
+pub anyway-hold : passed anyway-cases.cases ≡ true
+unfolding passed anyway-cases.before anyway-cases.after anyway-cases.beforeTwo anyway-cases.between anyway-cases.make anyway-cases.own anyway-cases.frozen anyway-cases.cases
+anyway-hold = refl
+
 pub rows-hold : passed rows-cases.cases ≡ true
 unfolding passed rows-cases.below rows-cases.renewed rows-cases.apart rows-cases.cases
 rows-hold = refl
@@ -161,12 +168,13 @@ declined-hold = refl
 pub cases-hold : Cases
 unfolding Cases cases
 cases-hold =
-    all-append (all-append (all-append (all-append (all-append (all-append (all-append (all-append (all-append (by-test _ tried-hold)
+    all-append (all-append (all-append (all-append (all-append (all-append (all-append (all-append (all-append (all-append (by-test _ tried-hold)
     (by-test _ sheet-hold))
     (by-test _ conditions-hold))
     (by-test _ last-part-hold))
     (by-test _ parties-hold))
     (by-test _ runs-hold))
+    (by-test _ anyway-hold))
     (by-test _ rows-hold))
     (by-test _ ledger-hold))
     (by-test _ limits-hold))

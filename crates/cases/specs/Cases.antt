@@ -6,6 +6,7 @@ pub mod Conditions
 pub mod LastPart
 pub mod Parties
 pub mod Runs
+pub mod Anyway
 pub mod Rows
 pub mod Ledger
 pub mod Limits
@@ -20,6 +21,7 @@ use Rattle.cases.specs.Cases.Conditions as conditions
 use Rattle.cases.specs.Cases.LastPart as last-part
 use Rattle.cases.specs.Cases.Parties as parties
 use Rattle.cases.specs.Cases.Runs as runs
+use Rattle.cases.specs.Cases.Anyway as anyway
 use Rattle.cases.specs.Cases.Rows as rows
 use Rattle.cases.specs.Cases.Ledger as ledger
 use Rattle.cases.specs.Cases.Limits as limits
@@ -27,7 +29,7 @@ use Rattle.cases.specs.Cases.Declined as declined
 
 unfoldable pub cases : List form.Case
 cases =
-    tried.cases ++ sheet.cases ++ conditions.cases ++ last-part.cases ++ parties.cases ++ runs.cases ++ rows.cases ++ ledger.cases ++ limits.cases ++ declined.cases
+    tried.cases ++ sheet.cases ++ conditions.cases ++ last-part.cases ++ parties.cases ++ runs.cases ++ anyway.cases ++ rows.cases ++ ledger.cases ++ limits.cases ++ declined.cases
 
 -- THE PROPOSITION: for each request of the list its text is printed
 unfoldable pub Cases : Type 0

@@ -17,7 +17,7 @@ use Rattle.bitml.proofs.Counting.{up-one, up-end}
 use Rattle.tables.specs.Entries.{Entries}
 use Rattle.tables.specs.SheetOf.{sheetOf, branchOf, branchEntryAt, branchNumber, partNumbers, partNumber, partCount}
 use Rattle.tables.proofs.SheetOf.{all-in, parts-are, parts-none, parts-split, parts-reveal}
-use Rattle.sheets.proofs.Owning.{own-below}
+use Rattle.owning.proofs.Owning.{own-below}
 use Rattle.exits.specs.Costs.{ranksAt, served, branchCost, Ranked, chosenFrom}
 
 module _ (E : Entries) (R : List ℕ) (b i : ℕ) where

@@ -1,4 +1,5 @@
 // Ranks, reached nodes, and the published rows.
+use owning::own;
 use sheets::branch_arg;
 use sheets::branch_count;
 use sheets::branch_kind;
@@ -7,7 +8,6 @@ use sheets::def_root;
 use sheets::mask_of;
 use sheets::node_definition;
 use sheets::node_total;
-use sheets::own;
 use sheets::part_count;
 use sheets::part_of;
 use tables::Action;

@@ -1,12 +1,12 @@
 // Rows that anyone gives are accepted, or the first fault is found.
 use exits::clear;
+use owning::own;
 use sheets::branch_arg;
 use sheets::branch_count;
 use sheets::branch_kind;
 use sheets::branch_of;
 use sheets::def_root;
 use sheets::mask_of;
-use sheets::own;
 use sheets::part_count;
 use sheets::part_of;
 use tables::Action;

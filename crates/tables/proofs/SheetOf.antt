@@ -4,16 +4,16 @@ use Prim.Native.Nat.{ℕ, zero, suc, _+_, _≤_, _<_}
 use native.Mathlib.Omega.{arith}
 use mathlib.Core.Bool.{Bool, true, false, cond}
 use mathlib.Core.List.{List, [], _∷_, map}
-use lib.ListN.{length, getD, drop, length-map}
-use lib.Seq.{getD-drop, ext-getD}
+use lib.ListN.{length, getD, length-map}
+use lib.Seq.{ext-getD}
 use lib.Dec.{eqb}
-use borrow.Author.Tests.{ne-eqb, eqb-true}
+use borrow.Author.Tests.{eqb-true}
 use Rattle.bitml.specs.Lists.{below, keep, All}
 use Rattle.bitml.specs.Sheet.{nodeAt, defAt, branchesAt, branchAt, noNode, noBranch, parts}
-use Rattle.bitml.specs.Runs.{isAlways, next}
+use Rattle.bitml.specs.Runs.{next}
 use Rattle.bitml.proofs.Lists.{getD-up, length-up, all-head, all-tail, keep-imp, keep-all, up-mem}
 use Rattle.tables.specs.Entries.{Entries}
-use Rattle.tables.specs.SheetOf.{nodeEntryAt, branchEntryAt, defEntryAt, cellAt, branchNumbers, branchCount, branchNumber, partNumbers, partCount, partNumber, readE, pickC, readC, condAt, partOf, actionOf, branchOf, nodeOf, depositOf, ownerOf, defOf, sheetOf}
+use Rattle.tables.specs.SheetOf.{nodeEntryAt, branchEntryAt, defEntryAt, branchNumbers, branchCount, branchNumber, partNumbers, partCount, partNumber, partOf, actionOf, branchOf, nodeOf, depositOf, ownerOf, defOf, sheetOf}
 
 -- ---- lists
 
@@ -148,15 +148,3 @@ module _ (E : Entries) where
     pub next-renewal : (K : ℕ) → branchEntryAt E b .kind ≡ 3 → branchEntryAt E b .arg < length (E .defs) → next (sheetOf K E) (branchOf E b .action) ≡ defEntryAt E (branchEntryAt E b .arg) .root ∷ []
     unfolding branchOf actionOf
     next-renewal K e h = rw e (ap (λ n. n ∷ []) (root-is K E (branchEntryAt E b .arg) h))
-
-  -- "whose condition is the one field `t`": by its first cell
-  pub always-is : (c : ℕ) → isAlways (condAt E c) ≡ eqb (cellAt E c) 0
-  unfolding condAt readC pickC
-  always-is c = go (getD (drop c (E .cells)) 0 0) ∙ ap (λ k. eqb k 0) (getD-drop c (E .cells) 0 0 ∙ ap (cellAt E) (let z : c + 0 ≡ c = omega arith in z))
-    where
-      go : (k : ℕ) → isAlways (pickC (readC 63) (readE 63) k (drop 1 (drop c (E .cells))) .0) ≡ eqb k 0
-      go zero = refl
-      go (suc zero) = refl
-      go (suc (suc zero)) = refl
-      go (suc (suc (suc zero))) = refl
-      go (suc (suc (suc (suc n)))) = sym (ne-eqb (suc (suc (suc (suc n)))) 0 (λ e. omega arith))

@@ -4,7 +4,9 @@ use mathlib.Core.Logic.{_⊎_}
 use Prim.Native.Nat.{ℕ, _+_, _*_, _-_, _≤_, _<_}
 use mathlib.Core.List.{List}
 use lib.ListN.{length, getD, drop}
+use lib.Dec.{eqb}
 use Rattle.bitml.specs.Sheet.{value, holds}
+use Rattle.bitml.specs.Runs.{closedExpr, closed}
 use Rattle.tables.specs.SheetOf.{readE, readC}
 use Rattle.truth.specs.declared.Integer.{Integer}
 use Rattle.truth.specs.declared.Truth.{Truth}
@@ -37,11 +39,14 @@ pub record ValueAt (cells values : List ℕ) (d at : ℕ) (r : Integer) : Type 0
   pub up : at ≤ r .next
   pub inside : r .next ≤ length cells
   pub small : r .plus + r .minus ≤ (r .next - at) * 1000000000
+  pub bare : eqb (r .named) 0 ≡ closedExpr (readE d (drop at cells) .0)
+  pub few : r .named ≤ r .next - at
 
 -- "`eq`,e,e, `lt`,e,e": two values that can be compared, since all cells together add no more than this
 pub record Small (e f : Integer) : Type 0 where
   pub first : e .plus + e .minus ≤ 32768000000000
   pub second : f .plus + f .minus ≤ 32768000000000
+  pub few : e .named + f .named ≤ 65536
 
 -- "A condition may nest; its value follows its parts": the condition at a place, read d levels deep
 pub record HoldsAt (cells values : List ℕ) (d at : ℕ) (r : Truth) : Type 0 where
@@ -49,3 +54,5 @@ pub record HoldsAt (cells values : List ℕ) (d at : ℕ) (r : Truth) : Type 0 w
   pub left : drop (r .next) cells ≡ readC d (drop at cells) .1
   pub up : at ≤ r .next
   pub inside : r .next ≤ length cells
+  pub bare : eqb (r .named) 0 ≡ closed (readC d (drop at cells) .0)
+  pub few : r .named ≤ r .next - at

@@ -65,6 +65,7 @@ cases =
     ∷ (before ++ letters "and,lt,v,0,v,1,not,eq,sub,v,1,v,0,add,k,1,k,2" ++ after, holds)
     -- a sum has no bound: five times 1,000,000,000 is not 705,032,704
     ∷ (before ++ letters "eq," ++ copies 4 (letters "add,k,1000000000,") ++ letters "k,1000000000,k,705032704" ++ after, fails)
+    ∷ (before ++ letters "lt,k,1000000000,add,k,1,k,1000000000" ++ after, holds)
     -- "`k`,number up to 1,000,000,000"
     ∷ (before ++ letters "lt,k,0,k,1000000000" ++ after, holds)
     ∷ (before ++ letters "lt,k,0,k,1000000001" ++ after, letters "refused,4,2,18\n")

@@ -46,7 +46,7 @@ cases =
     ∷ (letters "bitml,2,1\ndef,1,1,0,c,1,2,0,w,0\ncheck,0\nrow,0,0,1\n", letters "refused,12,4,0\n")
     ∷ (letters "bitml,1,1\ndef,1,0,c,1,0,0,g,0\ncheck,0\nrow,0,0,1\n", letters "refused,12,4,0\n")
     ∷ (letters "bitml,1,1\ndef,1,0,c,2,0,0,w,0,0,0,g,0\ncheck,0\nrow,0,1,9\n", letters "refused,12,4,0\n")
-    ∷ (letters "bitml,1,1\ndef,1,1,0,c,1,0,0,r,1,0,and,t,t,c,1,0,0,w,0\ncheck,0\nrow,0,0,2\nrow,1,0,1\n", letters "refused,12,4,0\n")
+    ∷ (letters "bitml,1,1\ndef,1,1,0,c,1,0,0,r,1,0,lt,v,0,k,1,c,1,0,0,w,0\ncheck,0\nrow,0,0,2\nrow,1,0,1\n", letters "refused,12,4,0\n")
     ∷ (letters "bitml,2,1\ndef,1,0,2,0,1,c,1,0,0,r,2,0,1,t,c,1,0,0,w,0\ncheck,0\nrow,0,0,2\nrow,1,0,1\n", letters "refused,12,4,0\n")
     -- "its rank is at least 1 + the sum of the ranks of the contracts in that branch": 13; exactly, one less, above
     ∷ (T ++ letters "check,0\nrow,0,0,2\nrow,1,0,1\n", letters "liquid,0,2,2\n")

@@ -36,12 +36,8 @@ cases =
     -- owners are those of the node's own definition
     ∷ (owners ++ letters "make,0\n", letters "frozen,0,1\n")
     ∷ (owners ++ letters "make,1\n", letters "row,0,0,1\nrow,1,0,2\nrow,2,0,1\nliquid,1,3,1\n")
-    -- "whose condition is the one field `t`", not another that is always true
+    -- "whose condition is the one field `t`", or counts as it (Anyway): not one that names a secret
     ∷ (letters "bitml,1,1\ndef,1,1,0,c,1,0,0,r,1,0,t,c,1,0,0,w,0\nmake,0\n", letters "row,0,0,2\nrow,1,0,1\nliquid,0,2,2\n")
-    ∷ (letters "bitml,1,1\ndef,1,1,0,c,1,0,0,r,1,0,and,t,t,c,1,0,0,w,0\nmake,0\n", letters "frozen,0,0\n")
-    ∷ (letters "bitml,1,1\ndef,1,1,0,c,1,0,0,r,1,0,not,not,t,c,1,0,0,w,0\nmake,0\n", letters "frozen,0,0\n")
-    ∷ (letters "bitml,1,1\ndef,1,1,0,c,1,0,0,r,1,0,eq,k,1,k,1,c,1,0,0,w,0\nmake,0\n", letters "frozen,0,0\n")
-    ∷ (letters "bitml,1,1\ndef,1,1,0,c,1,0,0,r,1,0,lt,k,0,k,1,c,1,0,0,w,0\nmake,0\n", letters "frozen,0,0\n")
     ∷ (letters "bitml,1,1\ndef,1,1,0,c,1,0,0,r,1,0,and,t,not,eq,add,v,0,k,1,sub,k,3,v,0,c,1,0,0,w,0\nmake,0\n", letters "frozen,0,0\n")
     -- "`g` is never own, even with K = 1": nor where its root has an exit
     ∷ (letters "bitml,1,2\ndef,1,0,c,1,0,0,g,1\ndef,1,0,c,1,0,0,w,0\nmake,0\n", letters "frozen,0,0\n")

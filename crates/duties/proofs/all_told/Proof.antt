@@ -4,10 +4,9 @@ use mathlib.Core.List.{map}
 use Prim.Native.Nat.{_+_, _-_, _≤_}
 use borrow.Author.Needs.{needs}
 use Rattle.bitml.specs.Lists.{every, upFrom}
-use Rattle.bitml.proofs.Counting.{up-all}
+use Rattle.bitml.proofs.Counting.{up-all, every-bad, every-good, every-end}
 use Rattle.tables.specs.Entries.{held}
 use Rattle.tables.specs.SheetOf.{listedAt}
-use Rattle.sheets.proofs.Owning.{every-bad, every-good, every-end}
 use Rattle.duties.specs.Duties.{toldAt}
 use Rattle.duties.proofs.Secrets.{told-past, told-not, told-yes}
 use Rattle.duties.proofs.all_told.Statement.{statement}

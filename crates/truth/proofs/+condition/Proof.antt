@@ -72,18 +72,25 @@ condition-condition-requires-2 t c κs =
     let c5 = c .before .before .before .before .before in let c8 = c5 .before .before .before in
     (omega (arith, c8 .pre .0, c5 .if1 .left), (c8 .pre .1 .0, (c8 .pre .1 .1 .0, c .condition .ensures .inside)))
 
-condition-returns-3 : (t : ℕ) → condition-lts.Need-returns-3 (condition-callees t) (condition-at t) condition.Post
-condition-returns-3 t c =
-    let c1 = c .before in let c2 = c1 .before in let c3 = c2 .before in let c5 = c3 .before .before in let c6 = c5 .before in let c7 = c6 .before in
-    holds-second _ _ (c7 .if1 .left) (c6 .peek .ensures) (c5 .past .ensures) (c3 .if3 .taken) (c2 .condition .ensures) (c1 .condition2 .ensures) (c .if4 .taken)
+condition-add-named : (t : ℕ) → condition-lts.Need-add-named (condition-callees t) (condition-at t) condition.Post
+condition-add-named t c =
+    omega (arith, (c .before .before .before) .condition .ensures .few, (c .before .before) .condition2 .ensures .few, (c .before .before .before) .condition .ensures .inside, (c .before .before) .condition2 .ensures .inside, (c .before .before .before .before .before .before .before .before .before .before .before) .pre .1 .0 .few)
 
 condition-found-requires-3 : (t : ℕ) → condition-lts.Need-found-requires-3 (condition-callees t) (condition-at t) condition.Post
-condition-found-requires-3 t c κs = tt
+condition-found-requires-3 t c κs =
+    tt
+
+condition-returns-3 : (t : ℕ) → condition-lts.Need-returns-3 (condition-callees t) (condition-at t) condition.Post
+condition-returns-3 t c =
+    rw (c .found3 .ensures) (holds-second _ _ ((c .before .before .before .before .before .before .before .before .before .before) .if1 .left) ((c .before .before .before .before .before .before .before .before .before) .peek .ensures) ((c .before .before .before .before .before .before .before .before) .past .ensures) ((c .before .before .before .before .before .before) .if3 .taken) ((c .before .before .before .before .before) .condition .ensures) ((c .before .before .before .before) .condition2 .ensures) ((c .before) .if4 .taken))
+
+condition-found-requires-4 : (t : ℕ) → condition-lts.Need-found-requires-4 (condition-callees t) (condition-at t) condition.Post
+condition-found-requires-4 t c κs =
+    tt
 
 condition-returns-4 : (t : ℕ) → condition-lts.Need-returns-4 (condition-callees t) (condition-at t) condition.Post
 condition-returns-4 t c =
-    let c1 = c .before in let c2 = c1 .before in let c3 = c2 .before in let c4 = c3 .before in let c6 = c4 .before .before in let c7 = c6 .before in let c8 = c7 .before in
-    rw (c .found3 .ensures) (holds-first _ _ (c8 .if1 .left) (c7 .peek .ensures) (c6 .past .ensures) (c4 .if3 .taken) (c3 .condition .ensures) (c2 .condition2 .ensures) (c1 .if4 .left))
+    rw (c .found4 .ensures) (holds-first _ _ ((c .before .before .before .before .before .before .before .before .before .before) .if1 .left) ((c .before .before .before .before .before .before .before .before .before) .peek .ensures) ((c .before .before .before .before .before .before .before .before) .past .ensures) ((c .before .before .before .before .before .before) .if3 .taken) ((c .before .before .before .before .before) .condition .ensures) ((c .before .before .before .before) .condition2 .ensures) ((c .before) .if4 .left))
 
 condition-sub-condition-3 : (t : ℕ) → condition-lts.Need-sub-condition-3 (condition-callees t) (condition-at t) condition.Post
 condition-sub-condition-3 t c =
@@ -95,13 +102,13 @@ condition-condition-requires-3 t c κs =
     let c3 = c .before .before .before in let c5 = c3 .before .before in let c8 = c5 .before .before .before in
     (omega (arith, c8 .pre .0, c5 .if1 .left), (c8 .pre .1 .0, (c8 .pre .1 .1 .0, c3 .past .ensures .inside)))
 
-condition-found-requires-4 : (t : ℕ) → condition-lts.Need-found-requires-4 (condition-callees t) (condition-at t) condition.Post
-condition-found-requires-4 t c κs = tt
+condition-found-requires-5 : (t : ℕ) → condition-lts.Need-found-requires-5 (condition-callees t) (condition-at t) condition.Post
+condition-found-requires-5 t c κs =
+    tt
 
 condition-returns-5 : (t : ℕ) → condition-lts.Need-returns-5 (condition-callees t) (condition-at t) condition.Post
 condition-returns-5 t c =
-    let c2 = c .before .before in let c3 = c2 .before in let c6 = c3 .before .before .before in let c7 = c6 .before in let c8 = c7 .before in
-    rw (c .found4 .ensures) (holds-not _ _ (c8 .if1 .left) (c7 .peek .ensures) (c6 .past .ensures) (c3 .if5 .taken) (c2 .condition3 .ensures))
+    rw (c .found5 .ensures) (holds-not _ _ ((c .before .before .before .before .before .before .before .before) .if1 .left) ((c .before .before .before .before .before .before .before) .peek .ensures) ((c .before .before .before .before .before .before) .past .ensures) ((c .before .before .before) .if5 .taken) ((c .before .before) .condition3 .ensures))
 
 condition-sub-expression : (t : ℕ) → condition-lts.Need-sub-expression (condition-callees t) (condition-at t) condition.Post
 condition-sub-expression t c =
@@ -157,12 +164,14 @@ pub +condition-spec : {M : Type 1} → statement M
     (condition-condition-requires t)
     (condition-sub-condition-2 t)
     (condition-condition-requires-2 t)
-    (condition-returns-3 t)
+    (condition-add-named t)
     (condition-found-requires-3 t)
+    (condition-returns-3 t)
+    (condition-found-requires-4 t)
     (condition-returns-4 t)
     (condition-sub-condition-3 t)
     (condition-condition-requires-3 t)
-    (condition-found-requires-4 t)
+    (condition-found-requires-5 t)
     (condition-returns-5 t)
     (condition-sub-expression t)
     (condition-expression-requires t)

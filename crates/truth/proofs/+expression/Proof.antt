@@ -97,35 +97,33 @@ expression-expression-requires-2 t c κs =
     let c5 = c .before .before .before .before .before in let c8 = c5 .before .before .before in
     (omega (arith, c8 .pre .0, c5 .if1 .left), (c8 .pre .1 .0, (c8 .pre .1 .1 .0, c .expression .ensures .inside)))
 
-expression-add-t16 : (t : ℕ) → expression-lts.Need-add-t16 (expression-callees t) (expression-at t) expression.Post
-expression-add-t16 t c =
-    let c3 = c .before .before .before in let c4 = c3 .before in let c7 = c4 .before .before .before in let c8 = c7 .before in let c9 = c8 .before in let c12 = c9 .before .before .before in
-    let s = small-both _ _ (c9 .if1 .left) (c8 .peek .ensures) (c7 .past .ensures) (c4 .expression .ensures) (c3 .expression2 .ensures) (c12 .pre .1 .0) in omega (arith, s .first, s .second)
+expression-add-named : (t : ℕ) → expression-lts.Need-add-named (expression-callees t) (expression-at t) expression.Post
+expression-add-named t c =
+    let s = small-both _ _ ((c .before .before .before .before .before .before .before .before) .if1 .left) ((c .before .before .before .before .before .before .before) .peek .ensures) ((c .before .before .before .before .before .before) .past .ensures) ((c .before .before .before) .expression .ensures) ((c .before .before) .expression2 .ensures) ((c .before .before .before .before .before .before .before .before .before .before .before) .pre .1 .0) in omega (arith, s .few)
 
 expression-add-t17 : (t : ℕ) → expression-lts.Need-add-t17 (expression-callees t) (expression-at t) expression.Post
 expression-add-t17 t c =
-    let c5 = c .before .before .before .before .before in let c6 = c5 .before in let c9 = c6 .before .before .before in let c10 = c9 .before in let c11 = c10 .before in let c14 = c11 .before .before .before in
-    let s = small-both _ _ (c11 .if1 .left) (c10 .peek .ensures) (c9 .past .ensures) (c6 .expression .ensures) (c5 .expression2 .ensures) (c14 .pre .1 .0) in omega (arith, s .first, s .second)
-
-expression-returns-4 : (t : ℕ) → expression-lts.Need-returns-4 (expression-callees t) (expression-at t) expression.Post
-expression-returns-4 t c =
-    let c4 = c .before .before .before .before in let c5 = c4 .before in let c6 = c5 .before in let c9 = c6 .before .before .before in let c10 = c9 .before in let c11 = c10 .before in
-    value-add _ _ (c11 .if1 .left) (c10 .peek .ensures) (c9 .past .ensures) (c6 .expression .ensures) (c5 .expression2 .ensures) (c4 .if4 .taken)
-
-expression-add-t15 : (t : ℕ) → expression-lts.Need-add-t15 (expression-callees t) (expression-at t) expression.Post
-expression-add-t15 t c =
-    let c3 = c .before .before .before in let c4 = c3 .before in let c7 = c4 .before .before .before in let c8 = c7 .before in let c9 = c8 .before in let c12 = c9 .before .before .before in
-    let s = small-both _ _ (c9 .if1 .left) (c8 .peek .ensures) (c7 .past .ensures) (c4 .expression .ensures) (c3 .expression2 .ensures) (c12 .pre .1 .0) in omega (arith, s .first, s .second)
+    let s = small-both _ _ ((c .before .before .before .before .before .before .before .before .before .before .before) .if1 .left) ((c .before .before .before .before .before .before .before .before .before .before) .peek .ensures) ((c .before .before .before .before .before .before .before .before .before) .past .ensures) ((c .before .before .before .before .before .before) .expression .ensures) ((c .before .before .before .before .before) .expression2 .ensures) ((c .before .before .before .before .before .before .before .before .before .before .before .before .before .before) .pre .1 .0) in omega (arith, s .first, s .second)
 
 expression-add-t18 : (t : ℕ) → expression-lts.Need-add-t18 (expression-callees t) (expression-at t) expression.Post
 expression-add-t18 t c =
-    let c5 = c .before .before .before .before .before in let c6 = c5 .before in let c9 = c6 .before .before .before in let c10 = c9 .before in let c11 = c10 .before in let c14 = c11 .before .before .before in
-    let s = small-both _ _ (c11 .if1 .left) (c10 .peek .ensures) (c9 .past .ensures) (c6 .expression .ensures) (c5 .expression2 .ensures) (c14 .pre .1 .0) in omega (arith, s .first, s .second)
+    let s = small-both _ _ ((c .before .before .before .before .before .before .before .before .before .before .before .before .before) .if1 .left) ((c .before .before .before .before .before .before .before .before .before .before .before .before) .peek .ensures) ((c .before .before .before .before .before .before .before .before .before .before .before) .past .ensures) ((c .before .before .before .before .before .before .before .before) .expression .ensures) ((c .before .before .before .before .before .before .before) .expression2 .ensures) ((c .before .before .before .before .before .before .before .before .before .before .before .before .before .before .before .before) .pre .1 .0) in omega (arith, s .first, s .second)
+
+expression-returns-4 : (t : ℕ) → expression-lts.Need-returns-4 (expression-callees t) (expression-at t) expression.Post
+expression-returns-4 t c =
+    value-add _ _ ((c .before .before .before .before .before .before .before .before .before .before .before .before .before) .if1 .left) ((c .before .before .before .before .before .before .before .before .before .before .before .before) .peek .ensures) ((c .before .before .before .before .before .before .before .before .before .before .before) .past .ensures) ((c .before .before .before .before .before .before .before .before) .expression .ensures) ((c .before .before .before .before .before .before .before) .expression2 .ensures) ((c .before .before .before .before) .if4 .taken)
+
+expression-add-t16 : (t : ℕ) → expression-lts.Need-add-t16 (expression-callees t) (expression-at t) expression.Post
+expression-add-t16 t c =
+    let s = small-both _ _ ((c .before .before .before .before .before .before .before .before .before .before .before) .if1 .left) ((c .before .before .before .before .before .before .before .before .before .before) .peek .ensures) ((c .before .before .before .before .before .before .before .before .before) .past .ensures) ((c .before .before .before .before .before .before) .expression .ensures) ((c .before .before .before .before .before) .expression2 .ensures) ((c .before .before .before .before .before .before .before .before .before .before .before .before .before .before) .pre .1 .0) in omega (arith, s .first, s .second)
+
+expression-add-t19 : (t : ℕ) → expression-lts.Need-add-t19 (expression-callees t) (expression-at t) expression.Post
+expression-add-t19 t c =
+    let s = small-both _ _ ((c .before .before .before .before .before .before .before .before .before .before .before .before .before) .if1 .left) ((c .before .before .before .before .before .before .before .before .before .before .before .before) .peek .ensures) ((c .before .before .before .before .before .before .before .before .before .before .before) .past .ensures) ((c .before .before .before .before .before .before .before .before) .expression .ensures) ((c .before .before .before .before .before .before .before) .expression2 .ensures) ((c .before .before .before .before .before .before .before .before .before .before .before .before .before .before .before .before) .pre .1 .0) in omega (arith, s .first, s .second)
 
 expression-returns-5 : (t : ℕ) → expression-lts.Need-returns-5 (expression-callees t) (expression-at t) expression.Post
 expression-returns-5 t c =
-    let c4 = c .before .before .before .before in let c5 = c4 .before in let c6 = c5 .before in let c7 = c6 .before in let c8 = c7 .before in let c9 = c8 .before in let c10 = c9 .before in let c11 = c10 .before in
-    value-sub _ _ (c11 .if1 .left) (c10 .peek .ensures) (c9 .past .ensures) (c6 .expression .ensures) (c5 .expression2 .ensures) (c8 .if2 .left) (c7 .if3 .left) (c4 .if4 .left)
+    value-sub _ _ ((c .before .before .before .before .before .before .before .before .before .before .before .before .before) .if1 .left) ((c .before .before .before .before .before .before .before .before .before .before .before .before) .peek .ensures) ((c .before .before .before .before .before .before .before .before .before .before .before) .past .ensures) ((c .before .before .before .before .before .before .before .before) .expression .ensures) ((c .before .before .before .before .before .before .before) .expression2 .ensures) ((c .before .before .before .before .before .before .before .before .before .before) .if2 .left) ((c .before .before .before .before .before .before .before .before .before) .if3 .left) ((c .before .before .before .before) .if4 .left)
 
 pub +expression-spec : {M : Type 1} → statement M
 +expression-spec = close μ-expression λ t. expression-lts.spec (expression-callees t)
@@ -148,9 +146,10 @@ pub +expression-spec : {M : Type 1} → statement M
     (expression-expression-requires t)
     (expression-sub-expression-2 t)
     (expression-expression-requires-2 t)
-    (expression-add-t16 t)
+    (expression-add-named t)
     (expression-add-t17 t)
-    (expression-returns-4 t)
-    (expression-add-t15 t)
     (expression-add-t18 t)
+    (expression-returns-4 t)
+    (expression-add-t16 t)
+    (expression-add-t19 t)
     (expression-returns-5 t)

@@ -1,33 +1,21 @@
 -- Own branches by a sheet's entries. Assumes nothing.
-use mathlib.Core.Path.{_≡_, refl, sym, ap, ap₂, _∙_}
+use mathlib.Core.Path.{_≡_, refl, sym, ap, _∙_}
 use mathlib.Core.Logic.{_⊎_, inl, inr, by-cases}
 use native.Mathlib.Decide.{decLe}
-use Prim.Native.Nat.{ℕ, zero, suc, _+_, _-_, _^_, _≤_, _<_}
+use Prim.Native.Nat.{ℕ, zero, suc, _^_, _≤_, _<_}
 use native.Mathlib.Omega.{arith}
-use mathlib.Core.Bool.{Bool, true, false, false≢true}
-use mathlib.Core.List.{map}
+use mathlib.Core.Bool.{true, false, false≢true}
 use lib.ListN.{length}
 use lib.Dec.{eqb}
-use borrow.Author.Tests.{lt-ltb, le-ltb, eq-eqb, ne-eqb}
-use Rattle.bitml.specs.Lists.{_&_, every, upFrom}
+use borrow.Author.Tests.{lt-ltb, le-ltb}
+use Rattle.bitml.specs.Lists.{_&_, every}
 use Rattle.bitml.specs.Sheet.{owns, nodeAt}
-use Rattle.bitml.specs.Runs.{own, onlySigner, ownAction}
-use Rattle.bitml.proofs.Counting.{up-more, up-none}
+use Rattle.bitml.specs.Runs.{own, onlySigner, countsAlways, ownAction}
 use Rattle.bitml.proofs.Lists.{and-i, and-false, and-true, and-no}
 use Rattle.tables.specs.Entries.{Entries}
-use Rattle.tables.specs.SheetOf.{nodeEntryAt, branchEntryAt, defEntryAt, cellAt, ownerOf, secretsOf, actionOf, branchOf, sheetOf}
-use Rattle.tables.proofs.SheetOf.{owner-count, owner-at, node-def, always-is}
+use Rattle.tables.specs.SheetOf.{nodeEntryAt, branchEntryAt, defEntryAt, condAt, ownerOf, secretsOf, actionOf, branchOf, sheetOf}
+use Rattle.tables.proofs.SheetOf.{owner-count, owner-at, node-def}
 use Rattle.sheets.proofs.Bits.{only-none, only-mask, only-other}
-
-module _ (T : ℕ → Bool) (f : ℕ → ℕ) (a i n : ℕ) where
-  pub every-bad : i < n → T (f (a + i)) ≡ false → every T (map f (upFrom (a + i) (n - i))) ≡ false
-  every-bad h e = ap (λ xs. every T (map f xs)) (up-more a i n h) ∙ and-false _ _ e
-
-  pub every-good : i < n → T (f (a + i)) ≡ true → every T (map f (upFrom (a + i) (n - i))) ≡ every T (map f (upFrom (a + (i + 1)) (n - (i + 1))))
-  every-good h e = ap (λ xs. every T (map f xs)) (up-more a i n h) ∙ and-true _ _ e
-
-  pub every-end : n ≤ i → every T (map f (upFrom (a + i) (n - i))) ≡ true
-  every-end h = ap (λ xs. every T (map f xs)) (up-none a i n h)
 
 module _ (K : ℕ) (E : Entries) (p : ℕ) where
   pub owns-past : (d j : ℕ) → d < length (E .defs) → defEntryAt E d .secrets ≤ j → owns (sheetOf K E) p d j ≡ false
@@ -74,21 +62,21 @@ module _ (K : ℕ) (E : Entries) (p : ℕ) where
         go (suc (suc zero)) h f = absurd (f refl)
         go (suc (suc (suc k))) h f = refl
 
-    pub own-guarded : branchEntryAt E b .kind ≡ 2 → (cellAt E (branchEntryAt E b .cond) ≡ 0 → ⊥) → own (sheetOf K E) p n (branchOf E b) ≡ false
+    reveal-is : n < length (E .nodes) → Alone b → branchEntryAt E b .kind ≡ 2
+        → own (sheetOf K E) p n (branchOf E b) ≡ (every (owns (sheetOf K E) p (nodeEntryAt E n .definition)) (secretsOf E b) & countsAlways (condAt E (branchEntryAt E b .cond)))
     unfolding actionOf
-    own-guarded e f = and-no _ _ (own-kind 2 e ∙ and-no _ _ (always-is E (branchEntryAt E b .cond) ∙ ne-eqb _ _ f))
-
-    pub own-reveal : n < length (E .nodes) → Alone b → branchEntryAt E b .kind ≡ 2 → cellAt E (branchEntryAt E b .cond) ≡ 0
-        → own (sheetOf K E) p n (branchOf E b) ≡ every (owns (sheetOf K E) p (nodeEntryAt E n .definition)) (secretsOf E b)
-    unfolding actionOf _&_
-    own-reveal h a e c =
+    reveal-is h a e =
         and-true _ _ (alone-is b a) ∙ own-kind 2 e
-        ∙ ap₂ (λ x y. x & y) (ap (λ d. every (owns (sheetOf K E) p d) (secretsOf E b)) (node-def K E n h)) (always-is E (branchEntryAt E b .cond) ∙ eq-eqb _ _ c)
-        ∙ and-all _
-      where
-        and-all : (x : Bool) → (x & true) ≡ x
-        and-all true = refl
-        and-all false = refl
+        ∙ ap (λ d. every (owns (sheetOf K E) p d) (secretsOf E b) & countsAlways (condAt E (branchEntryAt E b .cond))) (node-def K E n h)
+
+    pub own-another : n < length (E .nodes) → Alone b → branchEntryAt E b .kind ≡ 2
+        → every (owns (sheetOf K E) p (nodeEntryAt E n .definition)) (secretsOf E b) ≡ false → own (sheetOf K E) p n (branchOf E b) ≡ false
+    own-another h a e f = reveal-is h a e ∙ and-false _ _ f
+
+    pub own-reveal : n < length (E .nodes) → Alone b → branchEntryAt E b .kind ≡ 2
+        → every (owns (sheetOf K E) p (nodeEntryAt E n .definition)) (secretsOf E b) ≡ true
+        → own (sheetOf K E) p n (branchOf E b) ≡ countsAlways (condAt E (branchEntryAt E b .cond))
+    own-reveal h a e f = reveal-is h a e ∙ and-true _ _ f
 
     -- "`g` is never own"
     pub own-below : own (sheetOf K E) p n (branchOf E b) ≡ true → branchEntryAt E b .kind < 3

@@ -6,12 +6,12 @@ use mathlib.Core.List.{map}
 use borrow.Author.Tests.{eq-eqb, ne-eqb}
 use Rattle.bitml.specs.Lists.{every, upFrom}
 use Rattle.bitml.specs.Sheet.{owns}
-use Rattle.bitml.proofs.Counting.{up-all}
-use Rattle.sheets.proofs.Owning.{every-bad, every-good, every-end, owns-past, owns-in}
+use Rattle.bitml.proofs.Counting.{up-all, every-bad, every-good, every-end}
+use Rattle.owning.proofs.Owning.{owns-past, owns-in}
 use Rattle.tables.specs.SheetOf.{listedAt, ownerOf, sheetIn}
 use Rattle.tables.specs.Entries.{held, people}
-use Rattle.sheets.proofs.owns_all.Statement.{statement}
-use Rattle.sheets.proofs.owns_all.Tie as tie
+use Rattle.owning.proofs.owns_all.Statement.{statement}
+use Rattle.owning.proofs.owns_all.Tie as tie
 
 abbrev Inv-loop : tie.InvT-loop
 Inv-loop t p d first count secrets i₀ i = (i ≤ count) × (every (owns (sheetIn t) p d) (map (listedAt (held t)) (upFrom (first + i) (count - i))) ≡ every (owns (sheetIn t) p d) (map (listedAt (held t)) (upFrom first count)))

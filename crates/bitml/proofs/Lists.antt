@@ -42,6 +42,16 @@ unfolding _&_
 and-no true b e = e
 and-no false b e = refl
 
+pub and-end : (a : Bool) → (a & true) ≡ a
+unfolding _&_
+and-end true = refl
+and-end false = refl
+
+pub and-assoc : (a b c : Bool) → ((a & b) & c) ≡ (a & (b & c))
+unfolding _&_
+and-assoc true b c = refl
+and-assoc false b c = refl
+
 pub or-l : (a b : Bool) → a ≡ true → (a or b) ≡ true
 unfolding _or_
 or-l true b e = refl

@@ -12,7 +12,7 @@ use Rattle.bitml.specs.Sheet.{Sheet, branchesAt, branchAt, hasBranch, parts, de
 use Rattle.bitml.specs.Runs.{own, next}
 use Rattle.bitml.specs.Rows as bitml
 use Rattle.bitml.specs.Rows.{Row, has, rankOf, repeated, rowFault, faulty, check, orElse}
-use Rattle.bitml.proofs.Lists.{and-true, map-cong}
+use Rattle.bitml.proofs.Lists.{and-true, and-end, map-cong}
 use Rattle.tables.specs.Entries.{Entries, held, people}
 use Rattle.tables.specs.SheetOf.{branchEntryAt, defEntryAt, branchNumbers, branchNumber, branchCount, partNumbers, actionOf, branchOf, sheetOf, sheetIn}
 use Rattle.tables.proofs.SheetOf.{root-is, branches-are, count-of, branch-of, branch-small, next-renewal}
@@ -73,12 +73,8 @@ module _ (K : ℕ) (E : Entries) (ok : Promises K E) (A : List ℕ) (b : ℕ) (h
   next-has f = ap (every (hasBy A)) (sym (next-parts f))
 
   pub next-root : branchEntryAt E b .kind ≡ 3 → not (eqb (getD A (defEntryAt E (branchEntryAt E b .arg) .root) 0) 0) ≡ nextBy K E A b
-  unfolding nextBy hasBy _&_
-  next-root e = sym (ap (every (hasBy A)) (next-renewal E b K e (ok .branch b hb .renew e .definition)) ∙ one _)
-    where
-      one : (x : Bool) → (x & true) ≡ x
-      one true = refl
-      one false = refl
+  unfolding nextBy hasBy
+  next-root e = sym (ap (every (hasBy A)) (next-renewal E b K e (ok .branch b hb .renew e .definition)) ∙ and-end _)
 
 -- ---- a row
 

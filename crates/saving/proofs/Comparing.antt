@@ -8,24 +8,12 @@ use lib.ListN.{length, getD}
 use lib.Dec.{eqb}
 use borrow.Author.Tests.{eqb-true, eq-eqb, ne-eqb}
 use Rattle.bitml.specs.Lists.{_&_}
-use Rattle.bitml.proofs.Lists.{is-false, and-l, and-r, and-i, and-false, and-true}
+use Rattle.bitml.proofs.Lists.{is-false, and-l, and-r, and-i, and-false, and-true, and-end, and-assoc}
 use Rattle.tables.specs.Entries.{Entries, firstOf, nodeIn, branchIn, defIn, listedIn, cellIn, held, people}
 use Rattle.tables.proofs.Laws.{firstOf-length}
 use Rattle.writing.specs.Writable.{sameAll, sameNode, sameBranch, sameDef, sameEntries}
 use Rattle.writing.proofs.Same.{same-is}
 use Rattle.saving.specs.Comparing.{sameCells, sameSheet}
-
--- ---- tests
-
-and-assoc : (a b c : Bool) → ((a & b) & c) ≡ (a & (b & c))
-unfolding _&_
-and-assoc true b c = refl
-and-assoc false b c = refl
-
-and-end : (a : Bool) → (a & true) ≡ a
-unfolding _&_
-and-end true = refl
-and-end false = refl
 
 -- ---- lists
 

@@ -1,29 +1,24 @@
--- One law for each way out of the evaluation. Assumes nothing.
+-- One law for each way out of the evaluation, and for each turn of its loops. Assumes nothing.
 use mathlib.Core.Path.{_≡_, refl, sym, ap, ap₂, _∙_, subst}
 use mathlib.Core.Logic.{inl, inr, ⊎-elim, by-cases}
 use Prim.Native.Nat.{ℕ, zero, suc, _+_, _*_, _-_, _≤_, _<_}
 use native.Mathlib.Omega.{arith}
 use native.Mathlib.Decide.{decLe}
-use mathlib.Core.Bool.{Bool, true, false, not}
-use mathlib.Core.List.{List, [], _∷_}
-use lib.ListN.{length, getD, take, drop, List·getD-eq-default}
-use lib.Seq.{getD-drop, drop-drop, drop-length}
+use mathlib.Core.Bool.{Bool, true, false, not, cond}
+use mathlib.Core.List.{List, []}
+use lib.ListN.{length, getD, set, take, drop, length-set, List·getD-eq-default}
+use lib.Seq.{getD-drop, getD-set-same, getD-set-other, drop-drop, drop-length}
 use lib.Dec.{eqb, ltb}
+use borrow.Author.Tests.{eq-eqb, ne-eqb, eqb-true, eqb-false}
 use Rattle.bitml.specs.Lists.{_&_}
-use borrow.Author.Tests.{eq-eqb, ne-eqb}
+use Rattle.bitml.specs.Sheet.{Cond, value, holds, add, sub, both}
 use Rattle.bitml.specs.Runs.{closedExpr, closed, countsAlways}
-use Rattle.bitml.proofs.Lists.{and-false, and-true}
-use Rattle.bitml.specs.Sheet.{Cond, value, holds, add, sub, both, equal, less}
+use Rattle.bitml.proofs.Lists.{and-no, and-end, and-assoc}
 use Rattle.tables.specs.Entries.{held}
 use Rattle.tables.specs.SheetOf.{pickE, readE, pickC, readC, condAt}
 use Rattle.tables.proofs.Held.{cells-part}
 use Rattle.sheets.specs.Ready.{Ready}
-use Rattle.truth.specs.Evaluation.{Cells, Values, Step, ValueAt, Small, HoldsAt, numbers}
-use Rattle.truth.specs.declared.Integer.{Integer}
-use Rattle.truth.specs.declared.Truth.{Truth}
-
-abbrev alone : ℕ → ℕ × ℕ
-alone x = (x, 0)
+use Rattle.truth.specs.Evaluation.{Cells, Values, Step, Room, ValueAt, OperandsAt, HoldsAt, TruthOf, numbers}
 
 pub step-on : (t : List ℕ) (at : ℕ) → at < length t → Step t at (at + 1)
 step-on t at h = record { same = sym (drop-drop 1 at t); up = omega arith; inside = omega arith; moved = inr (omega arith) }
@@ -37,11 +32,120 @@ step-end t at h k =
 pub peek-past : (t : List ℕ) (at : ℕ) → length t ≤ at → 0 ≡ getD t at 0
 peek-past t at h = sym (List·getD-eq-default t 0 {n = at} h)
 
--- a sum is 0 where both are
-no-sum : (x y : ℕ) → eqb (x + y) 0 ≡ (eqb x 0 & eqb y 0)
+-- ---- tests put together
+
+cond-is : (b : Bool) → eqb (cond b 0 1) 0 ≡ b
+cond-is true = refl
+cond-is false = refl
+
+cond-not : (b : Bool) (x y : ℕ) → cond b y x ≡ cond (not b) x y
+cond-not true x y = refl
+cond-not false x y = refl
+
+-- the second of two decides where the first holds, and nothing where it does not
+cond-second : (a b : Bool) (x y : ℕ) → a ≡ true → cond b x y ≡ cond (a & b) x y
 unfolding _&_
-no-sum zero y = ap (λ k. eqb k 0) (let z : 0 + y ≡ y = omega arith in z)
-no-sum (suc x) y = ne-eqb (suc x + y) 0 (λ e. omega arith) ∙ sym (ap (λ b. b & eqb y 0) (ne-eqb (suc x) 0 (λ e. omega arith)))
+cond-second a b x y e = sym (ap (λ a. cond (a & b) x y) e)
+
+cond-first : (a b : Bool) (x y : ℕ) → a ≡ false → cond b y y ≡ cond (a & b) x y
+unfolding _&_
+cond-first a true x y e = sym (ap (λ a. cond (a & true) x y) e)
+cond-first a false x y e = sym (ap (λ a. cond (a & false) x y) e)
+
+-- ---- the slate: what is added to one side leaves the other
+
+chain : (a b c v w z : ℕ) → b ≡ a + v → c ≡ b + w → z ≡ v + w → c ≡ a + z
+chain a b c v w z e f g = omega (arith, e, f, g)
+
+swap : (a b : ℕ) → a + b ≡ b + a
+swap a b = omega arith
+
+back : (sign : ℕ) → sign ≤ 1 → 1 - (1 - sign) ≡ sign
+back sign h = omega (arith, h)
+
+module _ {t : List ℕ} {at sign : ℕ} {S : List ℕ} (m : Room t at sign S) where
+  pub turned : Room t at (1 - sign) S
+  turned = record {
+    inside = m .inside;
+    side = omega arith;
+    long = m .long;
+    small = subst (λ k. getD S (1 - sign) 0 + getD S k 0 ≤ at * 1000000000) (sym (back sign (m .side))) (omega (arith, m .small));
+  }
+
+  added-side : (y : ℕ) → getD (set S sign y) sign 0 ≡ y
+  added-side y = getD-set-same S sign y 0 (omega (arith, m .side, m .long))
+
+  added-other : (y : ℕ) → getD (set S sign y) (1 - sign) 0 ≡ getD S (1 - sign) 0
+  added-other y = getD-set-other S sign (1 - sign) y 0 (λ z. omega (arith, z, m .side))
+
+  added-room : {next : ℕ} (v : ℕ) → next ≤ length t → at * 1000000000 + v ≤ next * 1000000000 → Room t next sign (set S sign (getD S sign 0 + v))
+  added-room {next} v i h = record {
+    inside = i;
+    side = m .side;
+    long = simp length-set (m .long);
+    small = omega (arith, m .small, h, added-side (getD S sign 0 + v), added-other (getD S sign 0 + v));
+  }
+
+  naming-side : (x : ℕ) → getD (set S 2 x) sign 0 ≡ getD S sign 0
+  naming-side x = getD-set-other S 2 sign x 0 (λ z. omega (arith, z, m .side))
+
+  naming-other : (x : ℕ) → getD (set S 2 x) (1 - sign) 0 ≡ getD S (1 - sign) 0
+  naming-other x = getD-set-other S 2 (1 - sign) x 0 (λ z. omega (arith, z, m .side))
+
+  naming-named : (x : ℕ) → getD (set S 2 x) 2 0 ≡ x
+  naming-named x = getD-set-same S 2 x 0 (omega (arith, m .long))
+
+  naming-room : Room t at sign (set S 2 1)
+  naming-room = record {
+    inside = m .inside;
+    side = m .side;
+    long = simp length-set (m .long);
+    small = omega (arith, m .small, naming-side 1, naming-other 1);
+  }
+
+  -- the side takes 1,000,000,000 more, with at most 32,768 cells passed
+  pub fits : {v : ℕ} → Cells t → v ≤ 1000000000 → getD S sign 0 + v < 18446744073709551616
+  fits {v} cs h = omega (arith, m .small, m .inside, cs .few, h)
+
+-- what a cell of the table or a value holds
+pub cell-most : {t : List ℕ} {k : ℕ} (c : ℕ) → Cells t → k ≡ getD t c 0 → k ≤ 1000000000
+cell-most {t} c cs e = omega (arith, e, cs .cell c)
+
+pub value-most : {values : List ℕ} {x : ℕ} (j : ℕ) → Values values → x ≡ getD values j 0 → x ≤ 1000000000
+value-most {values} j vs e = omega (arith, e, vs .most j)
+
+-- both sides start at 0
+abbrev cleaned : List ℕ → List ℕ
+cleaned S = set (set S 0 0) 1 0
+
+clean-named : (S : List ℕ) → getD (cleaned S) 2 0 ≡ getD S 2 0
+clean-named S = getD-set-other (set S 0 0) 1 2 0 0 (λ z. omega (arith, z)) ∙ getD-set-other S 0 2 0 0 (λ z. omega (arith, z))
+
+module _ (S : List ℕ) (l : length S ≡ 4) where
+  clean-plus : getD (cleaned S) 0 0 ≡ 0
+  clean-plus = getD-set-other (set S 0 0) 1 0 0 0 (λ z. omega (arith, z)) ∙ getD-set-same S 0 0 0 (omega (arith, l))
+
+  clean-minus : getD (cleaned S) 1 0 ≡ 0
+  clean-minus = getD-set-same (set S 0 0) 1 0 0 (simp length-set (omega (arith, l)))
+
+  pub clean-room : {t : List ℕ} {at : ℕ} → at ≤ length t → Room t at 0 (cleaned S)
+  clean-room i = record { inside = i; side = omega arith; long = simp length-set l; small = omega (arith, clean-plus, clean-minus) }
+
+-- ---- expressions and conditions
+
+-- a code that is none of the first
+three : (k : ℕ) → (k ≡ 0 → ⊥) → (k ≡ 1 → ⊥) → (k ≡ 2 → ⊥) → k ≡ suc (suc (suc (k - 3)))
+three zero n0 n1 n2 = absurd (n0 refl)
+three (suc zero) n0 n1 n2 = absurd (n1 refl)
+three (suc (suc zero)) n0 n1 n2 = absurd (n2 refl)
+three (suc (suc (suc k))) n0 n1 n2 = omega arith
+
+four : (k : ℕ) → (k ≡ 0 → ⊥) → (k ≡ 1 → ⊥) → (k ≡ 2 → ⊥) → (k ≡ 3 → ⊥) → k ≡ suc (suc (suc (suc (k - 4))))
+four zero n0 n1 n2 n3 = absurd (n0 refl)
+four (suc zero) n0 n1 n2 n3 = absurd (n1 refl)
+four (suc (suc zero)) n0 n1 n2 n3 = absurd (n2 refl)
+four (suc (suc (suc zero))) n0 n1 n2 n3 = absurd (n3 refl)
+four (suc (suc (suc (suc k)))) n0 n1 n2 n3 = omega arith
 
 module _ (t values : List ℕ) where
   head-is : (at : ℕ) → getD (drop at t) 0 0 ≡ getD t at 0
@@ -67,163 +171,173 @@ module _ (t values : List ℕ) where
         ap (λ n. readC n (drop at t)) down
         ∙ ap₂ (λ c fs. pickC (readC (d - 1)) (readE (d - 1)) c fs) (head-is at ∙ sym ec ∙ e) (sym (s .same))
 
-    pub value-number : {k next : ℕ} → Cells t → code ≡ 0 → k ≡ getD t on 0 → Step t on next → ValueAt t values d at (record { plus = k; minus = 0; named = 0; next = next })
-    unfolding pickE
-    value-number {k} {next} cs e ek n = record {
-      worth = ap alone (ek ∙ sym (head-is on)) ∙ sym (ap (λ r. value (numbers values) (r .0)) (readE-is 0 e));
-      left = n .same ∙ sym (ap (λ r. r .1) (readE-is 0 e));
-      up = omega (arith, s .up, n .up);
-      inside = n .inside;
-      small = ⊎-elim (λ z. omega (arith, ek, z)) (λ z. omega (arith, ek, z, s .up, cs .cell on)) (n .moved);
-      bare = sym (ap (λ r. closedExpr (r .0)) (readE-is 0 e));
-      few = omega arith;
-    }
-
-    pub value-secret : {j next x : ℕ} → Values values → code ≡ 1 → j ≡ getD t on 0 → Step t on next → x ≡ getD values j 0
-        → ValueAt t values d at (record { plus = x; minus = 0; named = 1; next = next })
-    unfolding pickE
-    value-secret {j} {next} {x} vs e ej n ex = record {
-      worth = ap alone (ex ∙ ap (λ i. getD values i 0) (ej ∙ sym (head-is on))) ∙ sym (ap (λ r. value (numbers values) (r .0)) (readE-is 1 e));
-      left = n .same ∙ sym (ap (λ r. r .1) (readE-is 1 e));
-      up = omega (arith, s .up, n .up);
-      inside = n .inside;
-      small = ⊎-elim (λ z. absurd (omega (arith, ec, e, z))) (λ z. omega (arith, ex, vs .most j, z, n .up)) (s .moved);
-      bare = sym (ap (λ r. closedExpr (r .0)) (readE-is 1 e));
-      few = ⊎-elim (λ z. absurd (omega (arith, ec, e, z))) (λ z. omega (arith, z, n .up)) (s .moved);
-    }
-
-    module _ {a b : Integer} (wa : ValueAt t values (d - 1) on a) (wb : ValueAt t values (d - 1) (a .next) b) where
-      -- neither names a secret
-      none-named : eqb (a .named + b .named) 0 ≡ closedExpr (readE (d - 1) (drop on t) .0) & closedExpr (readE (d - 1) (drop (a .next) t) .0)
-      none-named = no-sum (a .named) (b .named) ∙ ap₂ (λ x y. x & y) (wa .bare) (wb .bare)
-
-      pub value-add : code ≡ 2 → ValueAt t values d at (record { plus = a .plus + b .plus; minus = a .minus + b .minus; named = a .named + b .named; next = b .next })
+    module _ {sign : ℕ} {S : List ℕ} (m : Room t at sign S) where
+      pub value-number : {k next : ℕ} → Cells t → code ≡ 0 → k ≡ getD t on 0 → Step t on next → ValueAt t values d at sign S next (set S sign (getD S sign 0 + k))
       unfolding pickE
-      value-add e =
-          let q = readE-is 2 e ∙ ap (λ fs. (add (readE (d - 1) (drop on t) .0) (readE (d - 1) fs .0), readE (d - 1) fs .1)) (sym (wa .left)) in
+      value-number {k} {next} cs e ek n =
+          let q = readE-is 0 e in
+          let y = getD S sign 0 + k in
+          let w : value (numbers values) (readE d (drop at t) .0) .0 ≡ k = ap (λ r. value (numbers values) (r .0) .0) q ∙ head-is on ∙ sym ek in
+          let v : value (numbers values) (readE d (drop at t) .0) .1 ≡ 0 = ap (λ r. value (numbers values) (r .0) .1) q in
           record {
-            worth = ap₂ (λ (x y : ℕ × ℕ). (x .0 + y .0, x .1 + y .1)) (wa .worth) (wb .worth) ∙ sym (ap (λ r. value (numbers values) (r .0)) q);
-            left = wb .left ∙ sym (ap (λ r. r .1) q);
-            up = omega (arith, s .up, wa .up, wb .up);
-            inside = wb .inside;
-            small = omega (arith, s .up, wa .up, wb .up, wa .small, wb .small);
-            bare = none-named ∙ sym (ap (λ r. closedExpr (r .0)) q);
-            few = omega (arith, s .up, wa .up, wb .up, wa .few, wb .few);
+            plus = omega (arith, added-side m y, w);
+            minus = omega (arith, added-other m y, v);
+            named = ap (λ i. eqb i 0) (getD-set-other S sign 2 y 0 (λ z. omega (arith, z, m .side))) ∙ sym (and-end _) ∙ sym (ap (λ r. eqb (getD S 2 0) 0 & closedExpr (r .0)) q);
+            left = n .same ∙ sym (ap (λ r. r .1) q);
+            room = added-room m k (n .inside) (⊎-elim (λ z. omega (arith, ek, z, s .up, n .up)) (λ z. omega (arith, ek, z, s .up, cs .cell on)) (n .moved));
           }
 
-      pub value-sub : (code ≡ 0 → ⊥) → (code ≡ 1 → ⊥) → (code ≡ 2 → ⊥) → ValueAt t values d at (record { plus = a .plus + b .minus; minus = a .minus + b .plus; named = a .named + b .named; next = b .next })
+      pub value-secret : {j next x : ℕ} → Values values → code ≡ 1 → j ≡ getD t on 0 → x ≡ getD values j 0 → Step t on next
+          → ValueAt t values d at sign S next (set (set S sign (getD S sign 0 + x)) 2 1)
       unfolding pickE
-      value-sub n0 n1 n2 =
-          let z : code ≡ suc (suc (suc (code - 3))) = go code n0 n1 n2 in
-          let q = readE-is (suc (suc (suc (code - 3)))) z ∙ ap (λ fs. (sub (readE (d - 1) (drop on t) .0) (readE (d - 1) fs .0), readE (d - 1) fs .1)) (sym (wa .left)) in
+      value-secret {j} {next} {x} vs e ej ex n =
+          let q = readE-is 1 e in
+          let y = getD S sign 0 + x in
+          let w : value (numbers values) (readE d (drop at t) .0) .0 ≡ x = ap (λ r. value (numbers values) (r .0) .0) q ∙ ap (λ i. getD values i 0) (head-is on ∙ sym ej) ∙ sym ex in
+          let v : value (numbers values) (readE d (drop at t) .0) .1 ≡ 0 = ap (λ r. value (numbers values) (r .0) .1) q in
+          let a = added-room m x (n .inside) (⊎-elim (λ z. absurd (omega (arith, ec, e, z))) (λ z. omega (arith, ex, vs .most j, z, n .up)) (s .moved)) in
+          let g : closedExpr (readE d (drop at t) .0) ≡ false = ap (λ r. closedExpr (r .0)) q in
+          let k : getD (set (set S sign y) 2 1) 2 0 ≡ 1 = naming-named a 1 in
           record {
-            worth = ap₂ (λ (x y : ℕ × ℕ). (x .0 + y .1, x .1 + y .0)) (wa .worth) (wb .worth) ∙ sym (ap (λ r. value (numbers values) (r .0)) q);
-            left = wb .left ∙ sym (ap (λ r. r .1) q);
-            up = omega (arith, s .up, wa .up, wb .up);
-            inside = wb .inside;
-            small = omega (arith, s .up, wa .up, wb .up, wa .small, wb .small);
-            bare = none-named ∙ sym (ap (λ r. closedExpr (r .0)) q);
-            few = omega (arith, s .up, wa .up, wb .up, wa .few, wb .few);
+            plus = omega (arith, naming-side a 1, added-side m y, w);
+            minus = omega (arith, naming-other a 1, added-other m y, v);
+            named = ap (λ i. eqb i 0) k ∙ sym (and-no _ _ refl) ∙ sym (ap (λ b. eqb (getD S 2 0) 0 & b) g);
+            left = n .same ∙ sym (ap (λ r. r .1) q);
+            room = naming-room a;
           }
-        where
-          go : (k : ℕ) → (k ≡ 0 → ⊥) → (k ≡ 1 → ⊥) → (k ≡ 2 → ⊥) → k ≡ suc (suc (suc (k - 3)))
-          go zero n0 n1 n2 = absurd (n0 refl)
-          go (suc zero) n0 n1 n2 = absurd (n1 refl)
-          go (suc (suc zero)) n0 n1 n2 = absurd (n2 refl)
-          go (suc (suc (suc k))) n0 n1 n2 = omega arith
 
-      pub small-both : Cells t → Small a b
-      small-both cs = record {
-        first = omega (arith, cs .few, wa .small, wa .inside);
-        second = omega (arith, cs .few, wb .small, wb .inside);
-        few = omega (arith, cs .few, wa .few, wb .few, wa .inside, wb .inside);
-      }
+      -- the first operand is done: what the second gives is what the whole gives
+      module _ {f : ℕ} {U : List ℕ} (wa : ValueAt t values (d - 1) on sign S f U) {next : ℕ} {W : List ℕ} where
+        pub value-add : code ≡ 2 → ValueAt t values (d - 1) f sign U next W → ValueAt t values d at sign S next W
+        unfolding pickE
+        value-add e wb =
+            let q = readE-is 2 e ∙ ap (λ fs. (add (readE (d - 1) (drop on t) .0) (readE (d - 1) fs .0), readE (d - 1) fs .1)) (sym (wa .left)) in
+            record {
+              plus = chain _ _ _ _ _ _ (wa .plus) (wb .plus) (ap (λ r. value (numbers values) (r .0) .0) q);
+              minus = chain _ _ _ _ _ _ (wa .minus) (wb .minus) (ap (λ r. value (numbers values) (r .0) .1) q);
+              named = wb .named ∙ ap (λ b. b & closedExpr (readE (d - 1) (drop f t) .0)) (wa .named) ∙ and-assoc _ _ _ ∙ sym (ap (λ r. eqb (getD S 2 0) 0 & closedExpr (r .0)) q);
+              left = wb .left ∙ sym (ap (λ r. r .1) q);
+              room = wb .room;
+            }
 
-      pub holds-equal : code ≡ 3 → HoldsAt t values d at (record { holds = eqb (a .plus + b .minus) (b .plus + a .minus); named = a .named + b .named; next = b .next })
+        pub value-sub : (code ≡ 0 → ⊥) → (code ≡ 1 → ⊥) → (code ≡ 2 → ⊥) → ValueAt t values (d - 1) f (1 - sign) U next W → ValueAt t values d at sign S next W
+        unfolding pickE
+        value-sub n0 n1 n2 wb =
+            let z : code ≡ suc (suc (suc (code - 3))) = three code n0 n1 n2 in
+            let q = readE-is (suc (suc (suc (code - 3)))) z ∙ ap (λ fs. (sub (readE (d - 1) (drop on t) .0) (readE (d - 1) fs .0), readE (d - 1) fs .1)) (sym (wa .left)) in
+            let o = back sign (m .side) in
+            record {
+              plus = chain _ _ _ _ _ _ (wa .plus) (subst (λ k. getD W k 0 ≡ getD U k 0 + value (numbers values) (readE (d - 1) (drop f t) .0) .1) o (wb .minus)) (ap (λ r. value (numbers values) (r .0) .0) q);
+              minus = chain _ _ _ _ _ _ (wa .minus) (wb .plus) (ap (λ r. value (numbers values) (r .0) .1) q);
+              named = wb .named ∙ ap (λ b. b & closedExpr (readE (d - 1) (drop f t) .0)) (wa .named) ∙ and-assoc _ _ _ ∙ sym (ap (λ r. eqb (getD S 2 0) 0 & closedExpr (r .0)) q);
+              left = wb .left ∙ sym (ap (λ r. r .1) q);
+              room = subst (λ k. Room t next k W) o (turned (wb .room));
+            }
+
+    abbrev holding : ℕ → Bool
+    holding i = holds (numbers values) (readC (d - 1) (drop i t) .0)
+
+    module _ {yes no : ℕ} {S : List ℕ} where
+      pub holds-always : length S ≡ 4 → code ≡ 0 → HoldsAt t values d at yes no S on (set S 3 yes)
       unfolding pickC
-      holds-equal e =
-          let q = readC-is 3 e ∙ ap (λ fs. (equal (readE (d - 1) (drop on t) .0) (readE (d - 1) fs .0), readE (d - 1) fs .1)) (sym (wa .left)) in
+      holds-always l e =
+          let q = readC-is 0 e in
           record {
-            truth = ap₂ (λ (x y : ℕ × ℕ). eqb (x .0 + y .1) (y .0 + x .1)) (wa .worth) (wb .worth) ∙ sym (ap (λ r. holds (numbers values) (r .0)) q);
-            left = wb .left ∙ sym (ap (λ r. r .1) q);
-            up = omega (arith, s .up, wa .up, wb .up);
-            inside = wb .inside;
-            bare = none-named ∙ sym (ap (λ r. closed (r .0)) q);
-            few = omega (arith, s .up, wa .up, wb .up, wa .few, wb .few);
+            truth = getD-set-same S 3 yes 0 (omega (arith, l)) ∙ sym (ap (λ r. cond (holds (numbers values) (r .0)) yes no) q);
+            named = ap (λ i. eqb i 0) (getD-set-other S 3 2 yes 0 (λ z. omega (arith, z))) ∙ sym (and-end _) ∙ sym (ap (λ r. eqb (getD S 2 0) 0 & closed (r .0)) q);
+            left = sym (ap (λ r. r .1) q);
+            inside = s .inside;
+            long = simp length-set l;
           }
 
-      pub holds-less : (code ≡ 0 → ⊥) → (code ≡ 1 → ⊥) → (code ≡ 2 → ⊥) → (code ≡ 3 → ⊥) → HoldsAt t values d at (record { holds = ltb (a .plus + b .minus) (b .plus + a .minus); named = a .named + b .named; next = b .next })
+      pub holds-not : {next : ℕ} {W : List ℕ} → code ≡ 2 → HoldsAt t values (d - 1) on no yes S next W → HoldsAt t values d at yes no S next W
       unfolding pickC
-      holds-less n0 n1 n2 n3 =
-          let z : code ≡ suc (suc (suc (suc (code - 4)))) = go code n0 n1 n2 n3 in
-          let q = readC-is (suc (suc (suc (suc (code - 4))))) z ∙ ap (λ fs. (less (readE (d - 1) (drop on t) .0) (readE (d - 1) fs .0), readE (d - 1) fs .1)) (sym (wa .left)) in
+      holds-not e ja =
+          let q = readC-is 2 e in
           record {
-            truth = ap₂ (λ (x y : ℕ × ℕ). ltb (x .0 + y .1) (y .0 + x .1)) (wa .worth) (wb .worth) ∙ sym (ap (λ r. holds (numbers values) (r .0)) q);
-            left = wb .left ∙ sym (ap (λ r. r .1) q);
-            up = omega (arith, s .up, wa .up, wb .up);
-            inside = wb .inside;
-            bare = none-named ∙ sym (ap (λ r. closed (r .0)) q);
-            few = omega (arith, s .up, wa .up, wb .up, wa .few, wb .few);
-          }
-        where
-          go : (k : ℕ) → (k ≡ 0 → ⊥) → (k ≡ 1 → ⊥) → (k ≡ 2 → ⊥) → (k ≡ 3 → ⊥) → k ≡ suc (suc (suc (suc (k - 4))))
-          go zero n0 n1 n2 n3 = absurd (n0 refl)
-          go (suc zero) n0 n1 n2 n3 = absurd (n1 refl)
-          go (suc (suc zero)) n0 n1 n2 n3 = absurd (n2 refl)
-          go (suc (suc (suc zero))) n0 n1 n2 n3 = absurd (n3 refl)
-          go (suc (suc (suc (suc k)))) n0 n1 n2 n3 = omega arith
-
-    pub holds-always : code ≡ 0 → HoldsAt t values d at (record { holds = true; named = 0; next = on })
-    unfolding pickC
-    holds-always e = record {
-      truth = sym (ap (λ r. holds (numbers values) (r .0)) (readC-is 0 e));
-      left = sym (ap (λ r. r .1) (readC-is 0 e));
-      up = s .up;
-      inside = s .inside;
-      bare = sym (ap (λ r. closed (r .0)) (readC-is 0 e));
-      few = omega arith;
-    }
-
-    pub holds-not : {a : Truth} → code ≡ 2 → HoldsAt t values (d - 1) on a → HoldsAt t values d at (record { holds = not (a .holds); named = a .named; next = a .next })
-    unfolding pickC
-    holds-not e ja = record {
-      truth = ap not (ja .truth) ∙ sym (ap (λ r. holds (numbers values) (r .0)) (readC-is 2 e));
-      left = ja .left ∙ sym (ap (λ r. r .1) (readC-is 2 e));
-      up = omega (arith, s .up, ja .up);
-      inside = ja .inside;
-      bare = ja .bare ∙ sym (ap (λ r. closed (r .0)) (readC-is 2 e));
-      few = omega (arith, s .up, ja .up, ja .few);
-    }
-
-    module _ {a b : Truth} (e : code ≡ 1) (ja : HoldsAt t values (d - 1) on a) (jb : HoldsAt t values (d - 1) (a .next) b) where
-      holds-both : (x : Bool) → x ≡ (a .holds & b .holds) → HoldsAt t values d at (record { holds = x; named = a .named + b .named; next = b .next })
-      unfolding pickC
-      holds-both x ex =
-          let q = readC-is 1 e ∙ ap (λ fs. (both (readC (d - 1) (drop on t) .0) (readC (d - 1) fs .0), readC (d - 1) fs .1)) (sym (ja .left)) in
-          record {
-            truth = ex ∙ ap₂ (λ x y. x & y) (ja .truth) (jb .truth) ∙ sym (ap (λ r. holds (numbers values) (r .0)) q);
-            left = jb .left ∙ sym (ap (λ r. r .1) q);
-            up = omega (arith, s .up, ja .up, jb .up);
-            inside = jb .inside;
-            bare = no-sum (a .named) (b .named) ∙ ap₂ (λ x y. x & y) (ja .bare) (jb .bare) ∙ sym (ap (λ r. closed (r .0)) q);
-            few = omega (arith, s .up, ja .up, jb .up, ja .few, jb .few);
+            truth = ja .truth ∙ cond-not (holding on) yes no ∙ sym (ap (λ r. cond (holds (numbers values) (r .0)) yes no) q);
+            named = ja .named ∙ sym (ap (λ r. eqb (getD S 2 0) 0 & closed (r .0)) q);
+            left = ja .left ∙ sym (ap (λ r. r .1) q);
+            inside = ja .inside;
+            long = ja .long;
           }
 
-      pub holds-second : a .holds ≡ true → HoldsAt t values d at (record { holds = b .holds; named = a .named + b .named; next = b .next })
-      unfolding _&_
-      holds-second h = holds-both (b .holds) (sym (ap (λ x. x & b .holds) h))
+      -- the first condition is done
+      module _ {f : ℕ} {U : List ℕ} (e : code ≡ 1) (ja : HoldsAt t values (d - 1) on 0 1 S f U) {next : ℕ} {W : List ℕ} where
+        holds-both : {x : ℕ} → cond (holding f) x no ≡ cond (holding on & holding f) yes no → HoldsAt t values (d - 1) f x no U next W → HoldsAt t values d at yes no S next W
+        unfolding pickC
+        holds-both ex jb =
+            let q = readC-is 1 e ∙ ap (λ fs. (both (readC (d - 1) (drop on t) .0) (readC (d - 1) fs .0), readC (d - 1) fs .1)) (sym (ja .left)) in
+            record {
+              truth = jb .truth ∙ ex ∙ sym (ap (λ r. cond (holds (numbers values) (r .0)) yes no) q);
+              named = jb .named ∙ ap (λ b. b & closed (readC (d - 1) (drop f t) .0)) (ja .named) ∙ and-assoc _ _ _ ∙ sym (ap (λ r. eqb (getD S 2 0) 0 & closed (r .0)) q);
+              left = jb .left ∙ sym (ap (λ r. r .1) q);
+              inside = jb .inside;
+              long = jb .long;
+            }
 
-      pub holds-first : a .holds ≡ false → HoldsAt t values d at (record { holds = false; named = a .named + b .named; next = b .next })
-      unfolding _&_
-      holds-first h = holds-both false (sym (ap (λ x. x & b .holds) h))
+        pub holds-second : getD U 3 0 ≡ 0 → HoldsAt t values (d - 1) f yes no U next W → HoldsAt t values d at yes no S next W
+        holds-second h = holds-both (cond-second (holding on) (holding f) yes no (sym (cond-is (holding on)) ∙ ap (λ i. eqb i 0) (sym (ja .truth)) ∙ eq-eqb _ _ h))
 
-  pub value-none : {d at : ℕ} → d ≡ 0 → at ≤ length t → ValueAt t values d at (record { plus = 0; minus = 0; named = 0; next = at })
+        pub holds-first : (getD U 3 0 ≡ 0 → ⊥) → HoldsAt t values (d - 1) f no no U next W → HoldsAt t values d at yes no S next W
+        holds-first h = holds-both (cond-first (holding on) (holding f) yes no (sym (cond-is (holding on)) ∙ ap (λ i. eqb i 0) (sym (ja .truth)) ∙ ne-eqb _ _ h))
+
+      -- two expressions are compared
+      module _ {f x : ℕ} {U : List ℕ} (n0 : code ≡ 0 → ⊥) (n1 : code ≡ 1 → ⊥) (n2 : code ≡ 2 → ⊥) (w : OperandsAt t values (d - 1) on S f U)
+          (ex : x ≡ cond (cond (eqb code 3) (eqb (getD U 0 0) (getD U 1 0)) (ltb (getD U 0 0) (getD U 1 0))) yes no) where
+        holds-test : (b : Bool) (c : Cond)
+            → eqb code 3 ≡ b
+            → readC d (drop at t) ≡ (c, readE (d - 1) (readE (d - 1) (drop on t) .1) .1)
+            → cond b (eqb (getD U 0 0) (getD U 1 0)) (ltb (getD U 0 0) (getD U 1 0)) ≡ holds (numbers values) c
+            → closed c ≡ (closedExpr (readE (d - 1) (drop on t) .0) & closedExpr (readE (d - 1) (readE (d - 1) (drop on t) .1) .0))
+            → HoldsAt t values d at yes no S f (set U 3 x)
+        holds-test b c eb q h k = record {
+          truth = getD-set-same U 3 x 0 (omega (arith, w .long)) ∙ ex
+              ∙ ap (λ b. cond (cond b (eqb (getD U 0 0) (getD U 1 0)) (ltb (getD U 0 0) (getD U 1 0))) yes no) eb
+              ∙ ap (λ b. cond b yes no) h ∙ sym (ap (λ r. cond (holds (numbers values) (r .0)) yes no) q);
+          named = ap (λ i. eqb i 0) (getD-set-other U 3 2 x 0 (λ z. omega (arith, z))) ∙ w .named ∙ sym (ap (λ b. eqb (getD S 2 0) 0 & b) k) ∙ sym (ap (λ r. eqb (getD S 2 0) 0 & closed (r .0)) q);
+          left = w .left ∙ sym (ap (λ r. r .1) q);
+          inside = w .inside;
+          long = simp length-set (w .long);
+        }
+
+        pub holds-compared : HoldsAt t values d at yes no S f (set U 3 x)
+        unfolding pickC
+        holds-compared = go (eqb code 3) refl
+          where
+            go : (b : Bool) → eqb code 3 ≡ b → HoldsAt t values d at yes no S f (set U 3 x)
+            go true eb = holds-test true _ eb (readC-is 3 (eqb-true _ _ eb)) (ap₂ (λ i j. eqb i j) (w .plus) (w .minus)) refl
+            go false eb = holds-test false _ eb (readC-is (suc (suc (suc (suc (code - 4))))) (four code n0 n1 n2 (eqb-false _ _ eb))) (ap₂ (λ i j. ltb i j) (w .plus) (w .minus)) refl
+
+  pub value-none : {d at sign : ℕ} {S : List ℕ} → d ≡ 0 → Room t at sign S → ValueAt t values d at sign S at S
   unfolding readE
-  value-none {d} {at} e h = rw e (record { worth = refl; left = refl; up = omega arith; inside = h; small = omega arith; bare = refl; few = omega arith })
+  value-none {d} {at} {sign} {S} e m = rw e (record { plus = omega arith; minus = omega arith; named = sym (and-end _); left = refl; room = m })
 
-  pub holds-none : {d at : ℕ} → d ≡ 0 → at ≤ length t → HoldsAt t values d at (record { holds = false; named = 0; next = at })
+  pub holds-none : {d at yes no : ℕ} {S : List ℕ} → d ≡ 0 → at ≤ length t → length S ≡ 4 → HoldsAt t values d at yes no S at (set S 3 no)
   unfolding readC
-  holds-none {d} {at} e h = rw e (record { truth = refl; left = refl; up = omega arith; inside = h; bare = refl; few = omega arith })
+  holds-none {d} {at} {yes} {no} {S} e h l = rw e (record {
+    truth = getD-set-same S 3 no 0 (omega (arith, l));
+    named = ap (λ i. eqb i 0) (getD-set-other S 3 2 no 0 (λ z. omega (arith, z))) ∙ sym (and-end _);
+    left = refl;
+    inside = h;
+    long = simp length-set l;
+  })
+
+  -- the first expression adds to a clean slate, and the second to its other side
+  pub operands-are : {d at f next : ℕ} (S : List ℕ) {U W : List ℕ} → length S ≡ 4
+      → ValueAt t values d at 0 (cleaned S) f U → ValueAt t values d f 1 U next W → OperandsAt t values d at S next W
+  operands-are {d} {at} {f} {next} S {U} {W} l wa wb =
+      let p : getD U 0 0 ≡ value (numbers values) (readE d (drop at t) .0) .0 = omega (arith, wa .plus, clean-plus S l) in
+      let m : getD U 1 0 ≡ value (numbers values) (readE d (drop at t) .0) .1 = omega (arith, wa .minus, clean-minus S l) in
+      record {
+        plus = wb .minus ∙ ap₂ (λ x fs. x + value (numbers values) (readE d fs .0) .1) p (wa .left);
+        minus = wb .plus ∙ swap _ _ ∙ ap₂ (λ x fs. value (numbers values) (readE d fs .0) .0 + x) m (wa .left);
+        named = wb .named ∙ ap (λ b. b & closedExpr (readE d (drop f t) .0)) (wa .named) ∙ and-assoc _ _ _
+            ∙ ap₂ (λ x fs. eqb x 0 & (closedExpr (readE d (drop at t) .0) & closedExpr (readE d fs .0))) (clean-named S) (wa .left);
+        left = wb .left ∙ ap (λ fs. readE d fs .1) (wa .left);
+        inside = wb .room .inside;
+        long = wb .room .long;
+      }
 
 -- ---- the cells of a table that was read whole, as they are lent
 
@@ -244,25 +358,28 @@ module _ {t : List ℕ} {n : ℕ} (r : Ready t) (e : n ≡ length (held t .cells
   pub lent-inside : {c : ℕ} → c < length (held t .cells) → c ≤ length (take (19304 + n - 19304) (drop 19304 t))
   lent-inside {c} h = subst (λ xs. c ≤ length xs) lent (omega (arith, h))
 
-  pub lent-holds : {values : List ℕ} {c : ℕ} {x : Truth} → HoldsAt (take (19304 + n - 19304) (drop 19304 t)) values 64 c x
-      → x .holds ≡ holds (numbers values) (condAt (held t) c)
+  pub lent-truth : {values : List ℕ} {c next : ℕ} {S U : List ℕ} → HoldsAt (take (19304 + n - 19304) (drop 19304 t)) values 64 c 0 1 S next U
+      → TruthOf (condAt (held t) c) values S U
   unfolding condAt
-  lent-holds {values} {c} h = h .truth ∙ sym (ap (λ xs. holds (numbers values) (readC 64 (drop c xs) .0)) lent)
+  lent-truth {values} {c} {next} {S} {U} h = record {
+    truth = h .truth ∙ sym (ap (λ xs. cond (holds (numbers values) (readC 64 (drop c xs) .0)) 0 1) lent);
+    named = h .named ∙ sym (ap (λ xs. eqb (getD S 2 0) 0 & closed (readC 64 (drop c xs) .0)) lent);
+  }
 
-  pub lent-closed : {values : List ℕ} {c : ℕ} {x : Truth} → HoldsAt (take (19304 + n - 19304) (drop 19304 t)) values 64 c x
-      → eqb (x .named) 0 ≡ closed (condAt (held t) c)
-  unfolding condAt
-  lent-closed {values} {c} h = h .bare ∙ sym (ap (λ xs. closed (readC 64 (drop c xs) .0)) lent)
+-- ---- what the slate tells
 
--- ---- counting as `t`
+pub told : {c : Cond} {values S U : List ℕ} → TruthOf c values S U → eqb (getD U 3 0) 0 ≡ holds (numbers values) c
+told h = ap (λ i. eqb i 0) (h .truth) ∙ cond-is _
 
-pub named-counts-not : {k : ℕ} (c : Cond) → (k ≡ 0 → ⊥) → eqb k 0 ≡ closed c → false ≡ countsAlways c
-unfolding countsAlways
-named-counts-not c n e = sym (and-false _ _ (sym e ∙ ne-eqb _ _ n))
+module _ {c : Cond} {S U : List ℕ} (z : getD S 2 0 ≡ 0) (h : TruthOf c [] S U) where
+  named-is : eqb (getD U 2 0) 0 ≡ closed c
+  unfolding _&_
+  named-is = h .named ∙ ap (λ b. b & closed c) (eq-eqb _ _ z)
 
-pub bare-counts : {k : ℕ} {b : Bool} (c : Cond) → k ≡ 0 → eqb k 0 ≡ closed c → b ≡ holds (numbers []) c → b ≡ countsAlways c
-unfolding countsAlways
-bare-counts c z e h = h ∙ sym (and-true _ _ (sym e ∙ eq-eqb _ _ z))
+  pub counts-told : getD U 2 0 ≡ 0 → eqb (getD U 3 0) 0 ≡ countsAlways c
+  unfolding countsAlways _&_
+  counts-told e = told h ∙ sym (ap (λ b. b & holds (λ j. 0) c) (sym named-is ∙ eq-eqb _ _ e))
 
-pub no-values : Values []
-no-values = record { most = λ j. omega arith }
+  pub counts-not : (getD U 2 0 ≡ 0 → ⊥) → false ≡ countsAlways c
+  unfolding countsAlways _&_
+  counts-not e = sym (ap (λ b. b & holds (λ j. 0) c) (sym named-is ∙ ne-eqb _ _ e))

@@ -1,48 +1,28 @@
-// Whether a condition holds: it is evaluated over the cells that are left, and the count of levels falls.
+// Whether a condition holds, and whether it names a secret: one evaluation tells both. It reads the cells that are left, and the count of
+// levels falls. What it finds it writes on a slate that the caller lends.
 use sheets::cell_total;
 use tables::Sheet;
 ghost use mathlib.Core.Path.{_≡_};
-ghost use Prim.Native.Nat.{_+_, _≤_, _<_};
+ghost use mathlib.Core.Bool.{cond};
+ghost use Prim.Native.Nat.{_≤_, _<_};
 ghost use lib.Dec.{eqb, ltb};
 ghost use lib.ListN.{length, getD};
 ghost use Rattle.bitml.specs.Sheet.{holds};
-ghost use Rattle.bitml.specs.Runs.{closed, countsAlways};
+ghost use Rattle.bitml.specs.Runs.{countsAlways};
 ghost use Rattle.tables.specs.Entries.{held};
 ghost use Rattle.tables.specs.SheetOf.{condAt};
 ghost use Rattle.sheets.specs.Ready.{Ready};
-ghost use Rattle.truth.specs.Evaluation.{Cells, Values, Step, ValueAt, HoldsAt, Small, numbers};
+ghost use Rattle.truth.specs.Evaluation.{Cells, Values, Step, Room, ValueAt, OperandsAt, HoldsAt, TruthOf, numbers};
 
-// An integer is plus less minus, for a difference may be negative. So many times its expression names a secret, and the cells behind it
-// start at next.
-pub struct Integer {
-    pub plus: usize,
-    pub minus: usize,
-    pub named: usize,
-    pub next: usize,
-}
+// The places of a slate. An integer is what stands at PLUS less what stands at MINUS, for a difference may be negative. At NAMED stands 0
+// while no secret was named, and at FAILS 0 where the condition holds.
+const PLUS: usize = 0;
 
-pub struct Truth {
-    pub holds: bool,
-    pub named: usize,
-    pub next: usize,
-}
+const MINUS: usize = 1;
 
-fn natural(plus: usize, named: usize, next: usize) -> Integer
-    ensures { λ r. ⌜ r ≡ record { plus = plus; minus = 0; named = named; next = next } ⌝ }
-{
-    Integer {
-        plus,
-        minus: 0,
-        named,
-        next,
-    }
-}
+const NAMED: usize = 2;
 
-fn found(holds: bool, named: usize, next: usize) -> Truth
-    ensures { λ r. ⌜ r ≡ record { holds = holds; named = named; next = next } ⌝ }
-{
-    Truth { holds, named, next }
-}
+const FAILS: usize = 3;
 
 // What stands at a place, and 0 past the end.
 fn peek(t: &[usize], at: usize) -> usize
@@ -59,135 +39,162 @@ fn past(t: &[usize], at: usize) -> usize
     if at < t.len() { at + 1 } else { at }
 }
 
-fn expression(cells: &[usize], values: &[usize], d: usize, at: usize) -> Integer
+// Adds an expression to one side of the slate, and tells the place behind it. Of two operands, the first is added by itself, and the second
+// is the next that is due, on the other side where it is taken away.
+fn expression(
+    cells: &[usize],
+    values: &[usize],
+    d: usize,
+    from: usize,
+    side: usize,
+    slate: &mut [usize; 4],
+) -> usize
     requires { ⌜ Cells (now cells) ⌝ }
     requires { ⌜ Values (now values) ⌝ }
-    requires { ⌜ at ≤ length (now cells) ⌝ }
-    ensures { λ r. ⌜ ValueAt (now (cells .entry)) (now (values .entry)) d at r ⌝ }
+    requires { ⌜ Room (now cells) from side (now slate) ⌝ }
+    ensures { λ r. ⌜ ValueAt (now (cells .entry)) (now (values .entry)) d from side (now (slate .entry)) r (now (slate .exit)) ⌝ }
 {
-    if d == 0 {
-        return natural(0, 0, at);
-    }
-    let word = peek(cells, at);
-    let on = past(cells, at);
-    if word == Sheet::K {
-        let k = peek(cells, on);
-        let next = past(cells, on);
-        return natural(k, 0, next);
-    }
-    if word == Sheet::V {
-        let j = peek(cells, on);
-        let next = past(cells, on);
-        let x = peek(values, j);
-        return natural(x, 1, next);
-    }
-    let e = expression(cells, values, d - 1, on);
-    let f = expression(cells, values, d - 1, e.next);
-    let named = e.named + f.named;
-    if word == Sheet::ADD {
-        return Integer {
-            plus: e.plus + f.plus,
-            minus: e.minus + f.minus,
-            named,
-            next: f.next,
-        };
-    }
-    Integer {
-        plus: e.plus + f.minus,
-        minus: e.minus + f.plus,
-        named,
-        next: f.next,
-    }
-}
-
-// e is f.
-fn equal(e: Integer, f: Integer) -> Truth
-    requires { ⌜ Small e f ⌝ }
-    ensures { λ r. ⌜ r ≡ record { holds = eqb (e .plus + f .minus) (f .plus + e .minus); named = e .named + f .named; next = f .next } ⌝ }
-{
-    let left = e.plus + f.minus;
-    let right = f.plus + e.minus;
-    found(left == right, e.named + f.named, f.next)
-}
-
-// e is less than f.
-fn less(e: Integer, f: Integer) -> Truth
-    requires { ⌜ Small e f ⌝ }
-    ensures { λ r. ⌜ r ≡ record { holds = ltb (e .plus + f .minus) (f .plus + e .minus); named = e .named + f .named; next = f .next } ⌝ }
-{
-    let left = e.plus + f.minus;
-    let right = f.plus + e.minus;
-    found(left < right, e.named + f.named, f.next)
-}
-
-fn condition(cells: &[usize], values: &[usize], d: usize, at: usize) -> Truth
-    requires { ⌜ Cells (now cells) ⌝ }
-    requires { ⌜ Values (now values) ⌝ }
-    requires { ⌜ at ≤ length (now cells) ⌝ }
-    ensures { λ r. ⌜ HoldsAt (now (cells .entry)) (now (values .entry)) d at r ⌝ }
-{
-    if d == 0 {
-        return found(false, 0, at);
-    }
-    let word = peek(cells, at);
-    let on = past(cells, at);
-    if word == Sheet::T {
-        return found(true, 0, on);
-    }
-    if word == Sheet::AND {
-        let p = condition(cells, values, d - 1, on);
-        let q = condition(cells, values, d - 1, p.next);
-        let named = p.named + q.named;
-        if p.holds {
-            return found(q.holds, named, q.next);
+    let mut at = from;
+    let mut left = d;
+    let mut sign = side;
+    loop {
+        if left == 0 {
+            return at;
         }
-        return found(false, named, q.next);
+        left -= 1;
+        let word = peek(cells, at);
+        let on = past(cells, at);
+        if word == Sheet::K {
+            slate[sign] += peek(cells, on);
+            return past(cells, on);
+        }
+        if word == Sheet::V {
+            slate[sign] += peek(values, peek(cells, on));
+            slate[NAMED] = 1;
+            return past(cells, on);
+        }
+        at = expression(cells, values, left, on, sign, slate);
+        if word != Sheet::ADD {
+            sign = 1 - sign;
+        }
     }
-    if word == Sheet::NOT {
-        let p = condition(cells, values, d - 1, on);
-        return found(!p.holds, p.named, p.next);
-    }
-    let e = expression(cells, values, d - 1, on);
-    let f = expression(cells, values, d - 1, e.next);
-    if word == Sheet::EQ {
-        return equal(e, f);
-    }
-    less(e, f)
 }
 
-// The condition whose cells start at c, by the number of each secret of a set.
-fn evaluated(t: &[usize], c: usize, values: &[usize]) -> Truth
-    requires { ⌜ Ready (now t) ⌝ }
-    requires { ⌜ c < length (held (now t) .cells) ⌝ }
+// Puts two expressions on the slate so that PLUS less MINUS is the first less the second.
+fn operands(cells: &[usize], values: &[usize], d: usize, at: usize, slate: &mut [usize; 4]) -> usize
+    requires { ⌜ Cells (now cells) ⌝ }
     requires { ⌜ Values (now values) ⌝ }
-    ensures { λ r. ⌜ r .holds ≡ holds (numbers (now (values .entry))) (condAt (held (now (t .entry))) c) ⌝ }
-    ensures { λ r. ⌜ eqb (r .named) 0 ≡ closed (condAt (held (now (t .entry))) c) ⌝ }
+    requires { ⌜ (at ≤ length (now cells)) × (length (now slate) ≡ 4) ⌝ }
+    ensures { λ r. ⌜ OperandsAt (now (cells .entry)) (now (values .entry)) d at (now (slate .entry)) r (now (slate .exit)) ⌝ }
+{
+    slate[PLUS] = 0;
+    slate[MINUS] = 0;
+    let e = expression(cells, values, d, at, PLUS, slate);
+    expression(cells, values, d, e, MINUS, slate)
+}
+
+// Yes where plus is minus, for `eq`, or less than minus, for `lt`.
+fn compared(word: usize, plus: usize, minus: usize, yes: usize, no: usize) -> usize
+    ensures { λ r. ⌜ r ≡ cond (cond (eqb word 3) (eqb plus minus) (ltb plus minus)) yes no ⌝ }
+{
+    if word == Sheet::EQ {
+        if plus == minus {
+            return yes;
+        }
+        return no;
+    }
+    if plus < minus {
+        return yes;
+    }
+    no
+}
+
+// Puts on the slate whether a condition holds, and tells the place behind it. Of two, the first is evaluated by itself, and the second is the
+// next that is due.
+fn condition(
+    cells: &[usize],
+    values: &[usize],
+    d: usize,
+    from: usize,
+    slate: &mut [usize; 4],
+) -> usize
+    requires { ⌜ Cells (now cells) ⌝ }
+    requires { ⌜ Values (now values) ⌝ }
+    requires { ⌜ (from ≤ length (now cells)) × (length (now slate) ≡ 4) ⌝ }
+    ensures { λ r. ⌜ HoldsAt (now (cells .entry)) (now (values .entry)) d from 0 1 (now (slate .entry)) r (now (slate .exit)) ⌝ }
+{
+    let mut at = from;
+    let mut left = d;
+    // what to put at FAILS where the condition that is due holds, and where it doesn't
+    let mut yes = 0;
+    let mut no = 1;
+    loop {
+        if left == 0 {
+            slate[FAILS] = no;
+            return at;
+        }
+        left -= 1;
+        let word = peek(cells, at);
+        at = past(cells, at);
+        match word {
+            Sheet::T => {
+                slate[FAILS] = yes;
+                return at;
+            }
+            Sheet::AND => {
+                at = condition(cells, values, left, at, slate);
+                if slate[FAILS] != 0 {
+                    yes = no;
+                }
+            }
+            Sheet::NOT => {
+                let was = yes;
+                yes = no;
+                no = was;
+            }
+            _ => {
+                at = operands(cells, values, left, at, slate);
+                slate[FAILS] = compared(word, slate[PLUS], slate[MINUS], yes, no);
+                return at;
+            }
+        }
+    }
+}
+
+// Puts on the slate what there is to tell of the condition whose cells start at c.
+fn evaluate(t: &[usize], c: usize, values: &[usize], slate: &mut [usize; 4])
+    requires { ⌜ Ready (now t) ⌝ }
+    requires { ⌜ (c < length (held (now t) .cells)) × (length (now slate) ≡ 4) ⌝ }
+    requires { ⌜ Values (now values) ⌝ }
+    ensures { λ _. ⌜ TruthOf (condAt (held (now (t .entry))) c) (now (values .entry)) (now (slate .entry)) (now (slate .exit)) ⌝ }
 {
     let total = cell_total(t);
     let cells = &t[Sheet::CELLS_AT..Sheet::CELLS_AT + total];
-    condition(cells, values, Sheet::FIELDS, c)
+    condition(cells, values, Sheet::FIELDS, c, slate);
 }
 
-// Whether it holds.
+// Whether the condition whose cells start at c holds, by the number of each secret of a set.
 pub fn condition_holds(t: &[usize], c: usize, values: &[usize]) -> bool
     requires { ⌜ Ready (now t) ⌝ }
     requires { ⌜ c < length (held (now t) .cells) ⌝ }
     requires { ⌜ Values (now values) ⌝ }
     ensures { λ r. ⌜ r ≡ holds (numbers (now (values .entry))) (condAt (held (now (t .entry))) c) ⌝ }
 {
-    let r = evaluated(t, c, values);
-    r.holds
+    let mut slate = [0usize; 4];
+    evaluate(t, c, values, &mut slate);
+    slate[FAILS] == 0
 }
 
-// Whether it counts as `t`: it names no secret, and is true, by no value.
+// Whether the condition whose cells start at c counts as `t`: it names no secret, and is true.
 pub fn counts(t: &[usize], c: usize) -> bool
     requires { ⌜ Ready (now t) ⌝ }
     requires { ⌜ c < length (held (now t) .cells) ⌝ }
     ensures { λ r. ⌜ r ≡ countsAlways (condAt (held (now (t .entry))) c) ⌝ }
 {
-    let r = evaluated(t, c, &t[0..0]);
-    if r.named != 0 {
-        return false;
+    let mut slate = [0usize; 4];
+    evaluate(t, c, &t[0..0], &mut slate);
+    if slate[NAMED] == 0 {
+        return slate[FAILS] == 0;
     }
-    r.holds
+    false
 }

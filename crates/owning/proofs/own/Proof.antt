@@ -9,59 +9,39 @@ use borrow.Author.Tests.{not-true, not-false}
 use borrow.Author.Needs.{needs}
 use Rattle.owning.proofs.own.Statement.{statement}
 use Rattle.owning.proofs.own.Tie as tie
-use Rattle.owning.proofs.own.Reads as reads
-use Rattle.owning.proofs.own.Lts as lts
-use Rattle.owning.proofs.owns_all.Reads as owns-all-reads
-use Rattle.sheets.proofs.branch_cond.Reads as branch-cond-reads
-use Rattle.sheets.proofs.branch_first.Reads as branch-first-reads
-use Rattle.sheets.proofs.branch_kind.Reads as branch-kind-reads
-use Rattle.sheets.proofs.branch_secrets.Reads as branch-secrets-reads
-use Rattle.sheets.proofs.branch_signers.Reads as branch-signers-reads
-use Rattle.sheets.proofs.node_definition.Reads as node-definition-reads
-use Rattle.truth.proofs.counts.Reads as counts-reads
 
--- src/lib.rt:52:9
 branch-signers-requires : tie.Need-branch-signers-requires
 branch-signers-requires c κs = search needs
 
--- src/lib.rt:55:13
 returns : tie.Need-returns
 returns c = let a = c .before .before .before .before .args in let e = c .before .before .branch-signers .ensures in
     sym (own-others (people (a .t .now)) (held (a .t .now)) (a .p) (a .n) (a .b) (c .before .before .before .before .pre .0 .promises .branch (a .b) (c .before .before .before .before .pre .1 .2) .signers) (λ z. c .before .if1 .taken (e ∙ z)) (λ z. c .if2 .taken (e ∙ z ∙ sym (c .before .before .before .before .pre .1 .0))))
 
--- src/lib.rt:58:9
 branch-kind-requires : tie.Need-branch-kind-requires
 branch-kind-requires c κs = search needs
 
--- src/lib.rt:60:9
 returns-2 : tie.Need-returns-2
 returns-2 c = let a = c .before .before .before .before .before .args in let e = sym (c .before .before .before .branch-signers .ensures) in
     sym (own-simple (people (a .t .now)) (held (a .t .now)) (a .p) (a .n) (a .b) (⊎-elim (λ w. inr (e ∙ w .1 .left ∙ c .before .before .before .before .before .pre .1 .0)) (λ w. inl (e ∙ w .left)) (c .before .before .if1 .came)) (omega arith))
 
--- src/lib.rt:63:9
 returns-3 : tie.Need-returns-3
 returns-3 c = let a = c .before .before .before .before .before .before .args in
     sym (own-renewal (people (a .t .now)) (held (a .t .now)) (a .p) (a .n) (a .b) (omega arith) (λ z. c .if4 .taken (c .before .before .branch-kind .ensures ∙ z)))
 
--- src/lib.rt:65:9
 node-definition-requires : tie.Need-node-definition-requires
 node-definition-requires c κs = search needs
 
--- src/lib.rt:66:9
 branch-first-requires : tie.Need-branch-first-requires
 branch-first-requires c κs = search needs
 
--- src/lib.rt:67:9
 branch-secrets-requires : tie.Need-branch-secrets-requires
 branch-secrets-requires c κs = search needs
 
--- src/lib.rt:68:9
 owns-all-requires : tie.Need-owns-all-requires
 owns-all-requires c κs = let a = c .before .before .before .before .before .before .before .before .before .args in let p = c .before .before .before .before .before .before .before .before .before .pre in
     let k : branchEntryAt (held (a .t .now)) (a .b) .kind ≡ 2 = sym (c .before .before .before .before .before .branch-kind .ensures) ∙ c .before .before .before .if4 .left in
     (p .0, (omega (arith, p .0 .promises .node (a .n) (p .1 .1) .definition), omega (arith, p .0 .promises .branch (a .b) (p .1 .2) .reveal k .listed)))
 
--- src/lib.rt:69:9
 returns-4 : tie.Need-returns-4
 returns-4 c = let a = c .before .before .before .before .before .before .before .before .before .before .before .args in let p = c .before .before .before .before .before .before .before .before .before .before .before .pre in
     let E = held (a .t .now) in
@@ -70,17 +50,14 @@ returns-4 c = let a = c .before .before .before .before .before .before .before 
     sym (own-another (people (a .t .now)) E (a .p) (a .n) (a .b) (p .1 .1) (⊎-elim (λ w. inr (e ∙ w .1 .left ∙ p .1 .0)) (λ w. inl (e ∙ w .left)) (c .before .before .before .before .before .before .before .before .if1 .came)) k
     (rw (sym (c .before .before .before .before .node-definition .ensures), sym (c .before .before .before .branch-first .ensures), sym (c .before .before .branch-secrets .ensures)) (sym (c .before .owns-all .ensures) ∙ not-true _ (c .if5 .taken))))
 
--- src/lib.rt:71:9
 branch-cond-requires : tie.Need-branch-cond-requires
 branch-cond-requires c κs = search needs
 
--- src/lib.rt:72:5
 counts-requires : tie.Need-counts-requires
 counts-requires c κs = let p = c .before .before .before .before .before .before .before .before .before .before .before .before .pre in
     let k : branchEntryAt (held (c .before .before .before .before .before .before .before .before .before .before .before .before .args .t .now)) (c .before .before .before .before .before .before .before .before .before .before .before .before .args .b) .kind ≡ 2 = sym (c .before .before .before .before .before .before .before .before .branch-kind .ensures) ∙ c .before .before .before .before .before .before .if4 .left in
     (p .0, omega (arith, c .branch-cond .ensures, p .0 .promises .branch (c .before .before .before .before .before .before .before .before .before .before .before .before .args .b) (p .1 .2) .reveal k .cond))
 
--- src/lib.rt:47:1
 returns-5 : tie.Need-returns-5
 returns-5 c = let a = c .before .before .before .before .before .before .before .before .before .before .before .before .before .args in let p = c .before .before .before .before .before .before .before .before .before .before .before .before .before .pre in
     let E = held (a .t .now) in

@@ -11,7 +11,7 @@ use lib.Seq.{getD-drop, getD-set-same, getD-set-other, drop-drop, drop-length}
 use lib.Dec.{eqb, ltb}
 use borrow.Author.Tests.{eq-eqb, ne-eqb, eqb-true, eqb-false}
 use Rattle.bitml.specs.Lists.{_&_}
-use Rattle.bitml.specs.Sheet.{Cond, value, holds, add, sub, both}
+use Rattle.bitml.specs.Sheet.{Cond, value, holds, add, sub, always, both}
 use Rattle.bitml.specs.Runs.{closedExpr, closed, countsAlways}
 use Rattle.bitml.proofs.Lists.{and-no, and-end, and-assoc}
 use Rattle.tables.specs.Entries.{held}
@@ -146,6 +146,11 @@ four (suc zero) n0 n1 n2 n3 = absurd (n1 refl)
 four (suc (suc zero)) n0 n1 n2 n3 = absurd (n2 refl)
 four (suc (suc (suc zero))) n0 n1 n2 n3 = absurd (n3 refl)
 four (suc (suc (suc (suc k)))) n0 n1 n2 n3 = omega arith
+
+read-always : (d : ℕ) (fs : List ℕ) → (d ≡ 0 → ⊥) → getD fs 0 0 ≡ 0 → readC d fs .0 ≡ always
+unfolding readC pickC
+read-always zero fs n h = absurd (n refl)
+read-always (suc d) fs n h = ap (λ c. pickC (readC d) (readE d) c (drop 1 fs) .0) h
 
 module _ (t values : List ℕ) where
   head-is : (at : ℕ) → getD (drop at t) 0 0 ≡ getD t at 0
@@ -365,6 +370,17 @@ module _ {t : List ℕ} {n : ℕ} (r : Ready t) (e : n ≡ length (held t .cells
     truth = h .truth ∙ sym (ap (λ xs. cond (holds (numbers values) (readC 64 (drop c xs) .0)) 0 1) lent);
     named = h .named ∙ sym (ap (λ xs. eqb (getD S 2 0) 0 & closed (readC 64 (drop c xs) .0)) lent);
   }
+
+  pub lent-always : {values : List ℕ} {k : ℕ} (c : ℕ) (S : List ℕ) → length S ≡ 4 → k ≡ getD (take (19304 + n - 19304) (drop 19304 t)) c 0 → k ≡ 0
+      → TruthOf (condAt (held t) c) values S (set S 3 0)
+  unfolding condAt
+  lent-always {values} {k} c S l ek z =
+      let h : getD (held t .cells) c 0 ≡ 0 = ap (λ xs. getD xs c 0) lent ∙ sym ek ∙ z in
+      let q : condAt (held t) c ≡ always = read-always 64 (drop c (held t .cells)) (λ e. omega (arith, e)) (head-is (held t .cells) values c ∙ h) in
+      record {
+        truth = getD-set-same S 3 0 0 (omega (arith, l)) ∙ sym (ap (λ p. cond (holds (numbers values) p) 0 1) q);
+        named = ap (λ i. eqb i 0) (getD-set-other S 3 2 0 0 (λ e. omega (arith, e))) ∙ sym (and-end _) ∙ sym (ap (λ p. eqb (getD S 2 0) 0 & closed p) q);
+      }
 
 -- ---- what the slate tells
 

@@ -161,7 +161,7 @@ fn condition(
     }
 }
 
-// Puts on the slate what there is to tell of the condition whose cells start at c.
+// Puts on the slate what there is to tell of the condition whose cells start at c. Most are `t`, for which nothing is called.
 fn evaluate(t: &[usize], c: usize, values: &[usize], slate: &mut [usize; 4])
     requires { ⌜ Ready (now t) ⌝ }
     requires { ⌜ (c < length (held (now t) .cells)) × (length (now slate) ≡ 4) ⌝ }
@@ -170,6 +170,10 @@ fn evaluate(t: &[usize], c: usize, values: &[usize], slate: &mut [usize; 4])
 {
     let total = cell_total(t);
     let cells = &t[Sheet::CELLS_AT..Sheet::CELLS_AT + total];
+    if peek(cells, c) == Sheet::T {
+        slate[FAILS] = 0;
+        return;
+    }
     condition(cells, values, Sheet::FIELDS, c, slate);
 }
 

@@ -1,4 +1,4 @@
-use Rattle.truth.proofs.Laws.{lent-cells, lent-inside, lent-truth}
+use Rattle.truth.proofs.Laws.{lent-cells, lent-inside, lent-always, lent-truth}
 use borrow.Author.Needs.{needs}
 use Rattle.truth.proofs.evaluate.Statement.{statement}
 use Rattle.truth.proofs.evaluate.Tie as tie
@@ -18,15 +18,26 @@ part-cells-start c = search needs
 part-cells-end : tie.Need-part-cells-end
 part-cells-end c = search needs
 
-condition-requires : tie.Need-condition-requires
-condition-requires c κs =
-    let c2 = c .before .before in let c5 = c2 .before .before .before in
-    (lent-cells (c5 .pre .0) (c2 .cell-total .ensures), (c5 .pre .1 .1, (lent-inside (c5 .pre .0) (c2 .cell-total .ensures) (c5 .pre .1 .0 .0), c5 .pre .1 .0 .1)))
+peek-requires : tie.Need-peek-requires
+peek-requires c κs = search needs
+
+element-write-slate : tie.Need-element-write-slate
+element-write-slate c = search needs
 
 returns : tie.Need-returns
 returns c =
-    let c3 = c .before .before .before in let c6 = c3 .before .before .before in
-    lent-truth (c6 .pre .0) (c3 .cell-total .ensures) (c .condition .ensures)
+    let c1 = c .before in let c3 = c1 .before .before in let c6 = c3 .before .before .before in
+    lent-always (c6 .pre .0) (c3 .cell-total .ensures) (c6 .args .c) (c6 .args .slate .now) (c6 .pre .1 .0 .1) (c1 .peek .ensures) (c .if1 .taken)
+
+condition-requires : tie.Need-condition-requires
+condition-requires c κs =
+    let c4 = c .before .before .before .before in let c7 = c4 .before .before .before in
+    (lent-cells (c7 .pre .0) (c4 .cell-total .ensures), (c7 .pre .1 .1, (lent-inside (c7 .pre .0) (c4 .cell-total .ensures) (c7 .pre .1 .0 .0), c7 .pre .1 .0 .1)))
+
+returns-2 : tie.Need-returns-2
+returns-2 c =
+    let c5 = c .before .before .before .before .before in let c8 = c5 .before .before .before in
+    lent-truth (c8 .pre .0) (c5 .cell-total .ensures) (c .condition .ensures)
 
 pub evaluate-spec : {M : Type 1} → statement M
 evaluate-spec =
@@ -37,5 +48,8 @@ evaluate-spec =
     sub-cells
     part-cells-start
     part-cells-end
+    peek-requires
+    element-write-slate
+    returns
     condition-requires
-    returns)
+    returns-2)

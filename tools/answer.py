@@ -30,21 +30,22 @@ def sections(text):
 
 
 def answer(proof, need, unfolding, text):
-    pattern = re.compile(rf"^({re.escape(need)} : [^\n]*)\n(?:unfolding [^\n]*\n)?({re.escape(need)} c(?: κs)? = ).*?(?=\n\n|\Z)", re.M | re.S)
+    pattern = re.compile(rf"^({re.escape(need)} : .*?)\n(?:unfolding [^\n]*\n)?({re.escape(need)}(?: t)? c(?: κs)? =)\s.*?(?=\n\n|\Z)", re.M | re.S)
     if not pattern.search(proof):
         print("no such need:", need)
     opened = f"\nunfolding {unfolding}" if unfolding else ""
-    return pattern.sub(lambda m: m.group(1) + opened + "\n" + m.group(2) + text, proof, count=1)
+    return pattern.sub(lambda m: m.group(1) + opened + "\n" + m.group(2) + " " + text, proof, count=1)
 
 
 def main():
     crate, function, answers = sys.argv[1:4]
     all_records, needs = records(crate, function)
     file = f"crates/{crate}/proofs/{function}/Proof.antt"
+    front = function[1:] + "-" if function.startswith("+") else ""
     proof = open(file).read()
     for head, body in sections(open(answers).read()):
         if head in ("Inv", "Mu"):
-            name = {"Inv": "Inv-loop", "Mu": "μ-loop"}[head]
+            name = front + {"Inv": "Inv-loop", "Mu": "μ-loop"}[head]
             proof = re.sub(rf"^({name} .*) = \?$", lambda m: f"{m.group(1)} = {body.strip()}", proof, flags=re.M)
         elif head == "use":
             proof = "".join(line + "\n" for line in body.split("\n") if line and line not in proof) + proof
@@ -55,7 +56,7 @@ def main():
             for need in names.split():
                 known = paths(all_records, needs.get(need, ""))
                 text = re.sub(r"@([A-Za-z][\w\-]*|@)", lambda m: known.get(m.group(1), "?" + m.group(1)), body)
-                proof = answer(proof, need, unfolding, text)
+                proof = answer(proof, front + need, unfolding, text)
     open(file, "w").write(proof)
 
 

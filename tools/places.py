@@ -4,7 +4,7 @@
     rt goals CRATE; tools/places.py CRATE FUNCTION [NEED ..]
 
 prints for each need of proofs/FUNCTION/Proof.antt the facts on the way to it: a call's `.ensures`, what a match told (`.given`), a
-test's `.taken` or `.left`, a loop's `.inv`, with the path from `c`.
+test's `.taken` or `.left`, a loop's `.inv`, with the path from `c`. A function NAME that calls itself is +NAME, as its folder.
 """
 import glob
 import re
@@ -13,7 +13,8 @@ import sys
 
 def records(crate, function):
     """The records of Lts.antt by name: the place before, and the names of the other fields; and each need's record."""
-    found = glob.glob(f"target/goals/{crate}/**/proofs/{function}/Lts.antt", recursive=True)
+    file = f"Lts-{function[1:]}.antt" if function.startswith("+") else "Lts.antt"
+    found = glob.glob(f"target/goals/{crate}/**/proofs/{function}/{file}", recursive=True)
     if not found:
         sys.exit(f"no goals of {crate}::{function}: run rt goals {crate}")
     text = open(found[0]).read()

@@ -11,7 +11,7 @@ use lib.Seq.{getD-drop, getD-set-same, getD-set-other, drop-drop, drop-length}
 use lib.Dec.{eqb, ltb}
 use borrow.Author.Tests.{eq-eqb, ne-eqb, eqb-true, eqb-false}
 use Rattle.bitml.specs.Lists.{_&_}
-use Rattle.bitml.specs.Sheet.{Cond, value, holds, add, sub, always, both}
+use Rattle.bitml.specs.Sheet.{Expr, Cond, value, holds, add, sub, always, both}
 use Rattle.bitml.specs.Runs.{closedExpr, closed, countsAlways}
 use Rattle.bitml.proofs.Lists.{and-no, and-end, and-assoc}
 use Rattle.tables.specs.Entries.{held}
@@ -103,6 +103,9 @@ module _ {t : List ℕ} {at sign : ℕ} {S : List ℕ} (m : Room t at sign S) wh
     small = omega (arith, m .small, naming-side 1, naming-other 1);
   }
 
+  pub on-room : {on : ℕ} → Step t at on → Room t on sign S
+  on-room s = record { inside = s .inside; side = m .side; long = m .long; small = omega (arith, m .small, s .up) }
+
   -- the side takes 1,000,000,000 more, with at most 32,768 cells passed
   pub fits : {v : ℕ} → Cells t → v ≤ 1000000000 → getD S sign 0 + v < 18446744073709551616
   fits {v} cs h = omega (arith, m .small, m .inside, cs .few, h)
@@ -134,18 +137,23 @@ module _ (S : List ℕ) (l : length S ≡ 4) where
 -- ---- expressions and conditions
 
 -- a code that is none of the first
-three : (k : ℕ) → (k ≡ 0 → ⊥) → (k ≡ 1 → ⊥) → (k ≡ 2 → ⊥) → k ≡ suc (suc (suc (k - 3)))
-three zero n0 n1 n2 = absurd (n0 refl)
-three (suc zero) n0 n1 n2 = absurd (n1 refl)
-three (suc (suc zero)) n0 n1 n2 = absurd (n2 refl)
-three (suc (suc (suc k))) n0 n1 n2 = omega arith
+three : (k : ℕ) → 1 < k → (k ≡ 2 → ⊥) → k ≡ suc (suc (suc (k - 3)))
+three k h n = omega (arith, h, n)
 
-four : (k : ℕ) → (k ≡ 0 → ⊥) → (k ≡ 1 → ⊥) → (k ≡ 2 → ⊥) → (k ≡ 3 → ⊥) → k ≡ suc (suc (suc (suc (k - 4))))
-four zero n0 n1 n2 n3 = absurd (n0 refl)
-four (suc zero) n0 n1 n2 n3 = absurd (n1 refl)
-four (suc (suc zero)) n0 n1 n2 n3 = absurd (n2 refl)
-four (suc (suc (suc zero))) n0 n1 n2 n3 = absurd (n3 refl)
-four (suc (suc (suc (suc k)))) n0 n1 n2 n3 = omega arith
+four : (k : ℕ) → 2 < k → (k ≡ 3 → ⊥) → k ≡ suc (suc (suc (suc (k - 4))))
+four k h n = omega (arith, h, n)
+
+-- a leaf is read in one level, so it is the same in more
+pick-leaf : (r r′ : List ℕ → Expr × List ℕ) (c : ℕ) (fs : List ℕ) → c ≤ 1 → pickE r c fs ≡ pickE r′ c fs
+unfolding pickE
+pick-leaf r r′ zero fs h = refl
+pick-leaf r r′ (suc zero) fs h = refl
+pick-leaf r r′ (suc (suc c)) fs h = absurd (omega (arith, h))
+
+read-leaf : (d : ℕ) (fs : List ℕ) → (d ≡ 0 → ⊥) → getD fs 0 0 ≤ 1 → readE 1 fs ≡ readE d fs
+unfolding readE
+read-leaf zero fs n h = absurd (n refl)
+read-leaf (suc d) fs n h = pick-leaf (readE 0) (readE d) (getD fs 0 0) (drop 1 fs) h
 
 read-always : (d : ℕ) (fs : List ℕ) → (d ≡ 0 → ⊥) → getD fs 0 0 ≡ 0 → readC d fs .0 ≡ always
 unfolding readC pickC
@@ -156,13 +164,30 @@ module _ (t values : List ℕ) where
   head-is : (at : ℕ) → getD (drop at t) 0 0 ≡ getD t at 0
   head-is at = getD-drop at t 0 0 ∙ ap (λ i. getD t i 0) (let z : at + 0 ≡ at = omega arith in z)
 
+  pub value-none : {d at sign : ℕ} {S : List ℕ} → d ≡ 0 → Room t at sign S → ValueAt t values d at sign S at S
+  unfolding readE
+  value-none {d} {at} {sign} {S} e m = rw e (record { plus = omega arith; minus = omega arith; named = sym (and-end _); left = refl; room = m })
+
+  pub value-leaf : {d at sign next : ℕ} {S U : List ℕ} → (d ≡ 0 → ⊥) → getD t at 0 ≤ 1 → ValueAt t values 1 at sign S next U → ValueAt t values d at sign S next U
+  value-leaf {d} {at} {sign} {next} {S} {U} nz h w =
+      let g : getD (drop at t) 0 0 ≤ 1 = omega (arith, h, head-is at) in
+      let q : readE 1 (drop at t) ≡ readE d (drop at t) = read-leaf d (drop at t) nz g in
+      record {
+        plus = w .plus ∙ ap (λ r. getD S sign 0 + value (numbers values) (r .0) .0) q;
+        minus = w .minus ∙ ap (λ r. getD S (1 - sign) 0 + value (numbers values) (r .0) .1) q;
+        named = w .named ∙ ap (λ r. eqb (getD S 2 0) 0 & closedExpr (r .0)) q;
+        left = w .left ∙ ap (λ r. r .1) q;
+        room = w .room;
+      }
+
+  -- where two ways meet, the place and the slate are those of one of them
+  pub value-met : {d at sign next next′ : ℕ} {S U U′ : List ℕ} → U ≡ U′ → next ≡ next′ → ValueAt t values d at sign S next′ U′ → ValueAt t values d at sign S next U
+  value-met {d} {at} {sign} {next} {next′} {S} {U} {U′} e f w =
+      subst (λ X. ValueAt t values d at sign S next X) (sym e) (subst (λ n. ValueAt t values d at sign S n U′) (sym f) w)
+
   module _ {d at code on : ℕ} (nz : d ≡ 0 → ⊥) (ec : code ≡ getD t at 0) (s : Step t at on) where
     down : d ≡ suc (d - 1)
-    down = go d nz
-      where
-        go : (d : ℕ) → (d ≡ 0 → ⊥) → d ≡ suc (d - 1)
-        go zero n = absurd (n refl)
-        go (suc d) n = omega arith
+    down = omega (arith, nz)
 
     readE-is : (k : ℕ) → code ≡ k → readE d (drop at t) ≡ pickE (readE (d - 1)) k (drop on t)
     unfolding readE
@@ -225,10 +250,10 @@ module _ (t values : List ℕ) where
               room = wb .room;
             }
 
-        pub value-sub : (code ≡ 0 → ⊥) → (code ≡ 1 → ⊥) → (code ≡ 2 → ⊥) → ValueAt t values (d - 1) f (1 - sign) U next W → ValueAt t values d at sign S next W
+        pub value-sub : 1 < code → (code ≡ 2 → ⊥) → ValueAt t values (d - 1) f (1 - sign) U next W → ValueAt t values d at sign S next W
         unfolding pickE
-        value-sub n0 n1 n2 wb =
-            let z : code ≡ suc (suc (suc (code - 3))) = three code n0 n1 n2 in
+        value-sub h n wb =
+            let z : code ≡ suc (suc (suc (code - 3))) = three code h n in
             let q = readE-is (suc (suc (suc (code - 3)))) z ∙ ap (λ fs. (sub (readE (d - 1) (drop on t) .0) (readE (d - 1) fs .0), readE (d - 1) fs .1)) (sym (wa .left)) in
             let o = back sign (m .side) in
             record {
@@ -238,6 +263,17 @@ module _ (t values : List ℕ) where
               left = wb .left ∙ sym (ap (λ r. r .1) q);
               room = subst (λ k. Room t next k W) o (turned (wb .room));
             }
+
+      -- no level is left for the operands
+      pub value-flat : 1 < code → d - 1 ≡ 0 → ValueAt t values d at sign S on S
+      value-flat h z = go (eqb code 2) refl
+        where
+          w : ValueAt t values (d - 1) on sign S on S
+          w = value-none z (on-room m s)
+
+          go : (b : Bool) → eqb code 2 ≡ b → ValueAt t values d at sign S on S
+          go true e = value-add w (eqb-true _ _ e) w
+          go false e = value-sub w h (eqb-false _ _ e) (value-none z (turned (on-room m s)))
 
     abbrev holding : ℕ → Bool
     holding i = holds (numbers values) (readC (d - 1) (drop i t) .0)
@@ -288,7 +324,7 @@ module _ (t values : List ℕ) where
         holds-first h = holds-both (cond-first (holding on) (holding f) yes no (sym (cond-is (holding on)) ∙ ap (λ i. eqb i 0) (sym (ja .truth)) ∙ ne-eqb _ _ h))
 
       -- two expressions are compared
-      module _ {f x : ℕ} {U : List ℕ} (n0 : code ≡ 0 → ⊥) (n1 : code ≡ 1 → ⊥) (n2 : code ≡ 2 → ⊥) (w : OperandsAt t values (d - 1) on S f U)
+      module _ {f x : ℕ} {U : List ℕ} (h : 2 < code) (w : OperandsAt t values (d - 1) on S f U)
           (ex : x ≡ cond (cond (eqb code 3) (eqb (getD U 0 0) (getD U 1 0)) (ltb (getD U 0 0) (getD U 1 0))) yes no) where
         holds-test : (b : Bool) (c : Cond)
             → eqb code 3 ≡ b
@@ -312,11 +348,7 @@ module _ (t values : List ℕ) where
           where
             go : (b : Bool) → eqb code 3 ≡ b → HoldsAt t values d at yes no S f (set U 3 x)
             go true eb = holds-test true _ eb (readC-is 3 (eqb-true _ _ eb)) (ap₂ (λ i j. eqb i j) (w .plus) (w .minus)) refl
-            go false eb = holds-test false _ eb (readC-is (suc (suc (suc (suc (code - 4))))) (four code n0 n1 n2 (eqb-false _ _ eb))) (ap₂ (λ i j. ltb i j) (w .plus) (w .minus)) refl
-
-  pub value-none : {d at sign : ℕ} {S : List ℕ} → d ≡ 0 → Room t at sign S → ValueAt t values d at sign S at S
-  unfolding readE
-  value-none {d} {at} {sign} {S} e m = rw e (record { plus = omega arith; minus = omega arith; named = sym (and-end _); left = refl; room = m })
+            go false eb = holds-test false _ eb (readC-is (suc (suc (suc (suc (code - 4))))) (four code h (eqb-false _ _ eb))) (ap₂ (λ i j. ltb i j) (w .plus) (w .minus)) refl
 
   pub holds-none : {d at yes no : ℕ} {S : List ℕ} → d ≡ 0 → at ≤ length t → length S ≡ 4 → HoldsAt t values d at yes no S at (set S 3 no)
   unfolding readC

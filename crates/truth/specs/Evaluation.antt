@@ -31,8 +31,9 @@ pub record Step (cells : List ℕ) (at on : ℕ) : Type 0 where
   pub inside : on ≤ length cells
   pub moved : (getD cells at 0 ≡ 0) ⊎ (at < on)
 
--- An evaluation writes on a slate of four numbers. "Integers, so a difference may be negative": 0 and 1 are the sides of an integer, and the
--- one at sign is added to. Each cell that was passed adds at most 1,000,000,000, so nothing wraps
+-- An evaluation writes on a slate of four numbers. "Integers, so a difference may be negative": 0 and 1 are the two sides of an integer. 2 is
+-- 0 while no secret was named, and 3 is 0 where the condition holds. Each cell that was passed adds at most 1,000,000,000 to the sides, so
+-- nothing wraps; sign is the side that is added to
 pub record Room (cells : List ℕ) (at sign : ℕ) (slate : List ℕ) : Type 0 where
   pub inside : at ≤ length cells
   pub side : sign ≤ 1

@@ -39,9 +39,28 @@ fn past(t: &[usize], at: usize) -> usize
     if at < t.len() { at + 1 } else { at }
 }
 
+// Adds a leaf, a `k` or a `v`, to one side of the slate, and tells the place behind it.
+fn leaf(cells: &[usize], values: &[usize], at: usize, sign: usize, slate: &mut [usize; 4]) -> usize
+    requires { ⌜ Cells (now cells) ⌝ }
+    requires { ⌜ Values (now values) ⌝ }
+    requires { ⌜ Room (now cells) at sign (now slate) ⌝ }
+    requires { ⌜ getD (now cells) at 0 ≤ 1 ⌝ }
+    ensures { λ r. ⌜ ValueAt (now (cells .entry)) (now (values .entry)) 1 at sign (now (slate .entry)) r (now (slate .exit)) ⌝ }
+{
+    let word = peek(cells, at);
+    let on = past(cells, at);
+    if word == Sheet::K {
+        slate[sign] += peek(cells, on);
+        return past(cells, on);
+    }
+    slate[sign] += peek(values, peek(cells, on));
+    slate[NAMED] = 1;
+    past(cells, on)
+}
+
 // Adds an expression to one side of the slate, and tells the place behind it. Of two operands, the first is added by itself, and the second
-// is the next that is due, on the other side where it is taken away.
-fn expression(
+// is the next that is due, on the other side where it is taken away. A leaf, as most operands are, is added without a call of this.
+fn nested(
     cells: &[usize],
     values: &[usize],
     d: usize,
@@ -52,32 +71,54 @@ fn expression(
     requires { ⌜ Cells (now cells) ⌝ }
     requires { ⌜ Values (now values) ⌝ }
     requires { ⌜ Room (now cells) from side (now slate) ⌝ }
+    requires { ⌜ 0 < d ⌝ }
     ensures { λ r. ⌜ ValueAt (now (cells .entry)) (now (values .entry)) d from side (now (slate .entry)) r (now (slate .exit)) ⌝ }
 {
     let mut at = from;
     let mut left = d;
     let mut sign = side;
     loop {
-        if left == 0 {
-            return at;
+        let word = peek(cells, at);
+        if word <= Sheet::V {
+            return leaf(cells, values, at, sign, slate);
         }
         left -= 1;
-        let word = peek(cells, at);
         let on = past(cells, at);
-        if word == Sheet::K {
-            slate[sign] += peek(cells, on);
-            return past(cells, on);
+        if left == 0 {
+            return on;
         }
-        if word == Sheet::V {
-            slate[sign] += peek(values, peek(cells, on));
-            slate[NAMED] = 1;
-            return past(cells, on);
+        if peek(cells, on) <= Sheet::V {
+            at = leaf(cells, values, on, sign, slate);
+        } else {
+            at = nested(cells, values, left, on, sign, slate);
         }
-        at = expression(cells, values, left, on, sign, slate);
         if word != Sheet::ADD {
             sign = 1 - sign;
         }
     }
+}
+
+// The same, also where no level is left.
+fn expression(
+    cells: &[usize],
+    values: &[usize],
+    d: usize,
+    at: usize,
+    sign: usize,
+    slate: &mut [usize; 4],
+) -> usize
+    requires { ⌜ Cells (now cells) ⌝ }
+    requires { ⌜ Values (now values) ⌝ }
+    requires { ⌜ Room (now cells) at sign (now slate) ⌝ }
+    ensures { λ r. ⌜ ValueAt (now (cells .entry)) (now (values .entry)) d at sign (now (slate .entry)) r (now (slate .exit)) ⌝ }
+{
+    if d == 0 {
+        return at;
+    }
+    if peek(cells, at) <= Sheet::V {
+        return leaf(cells, values, at, sign, slate);
+    }
+    nested(cells, values, d, at, sign, slate)
 }
 
 // Puts two expressions on the slate so that PLUS less MINUS is the first less the second.
@@ -161,7 +202,7 @@ fn condition(
     }
 }
 
-// Puts on the slate what there is to tell of the condition whose cells start at c. Most are `t`, for which nothing is called.
+// Puts on the slate what there is to tell of the condition whose cells start at c. A `t` needs no call.
 fn evaluate(t: &[usize], c: usize, values: &[usize], slate: &mut [usize; 4])
     requires { ⌜ Ready (now t) ⌝ }
     requires { ⌜ (c < length (held (now t) .cells)) × (length (now slate) ≡ 4) ⌝ }

@@ -130,7 +130,7 @@ condition-returns-3 : (t : ℕ) → condition-lts.Need-returns-3 (condition-call
 condition-returns-3 t c =
     let c3 = c .before .before .before in let c5 = c3 .before .before in let c6 = c5 .before in let c7 = c6 .before in
     let c8 = c7 .before in let c9 = c8 .before in
-    c9 .loop .inv .0 _ _ (holds-compared _ _ (c8 .if1 .left) (c7 .peek .ensures) (c6 .past .ensures) (c5 .match .rest .0 .0 .1) (c5 .match .rest .0 .1) (c5 .match .rest .1) (c3 .operands .ensures) (c .compared .ensures))
+    c9 .loop .inv .0 _ _ (holds-compared _ _ (c8 .if1 .left) (c7 .peek .ensures) (c6 .past .ensures) (omega (arith, c5 .match .rest .0 .0 .1, c5 .match .rest .0 .1, c5 .match .rest .1)) (c3 .operands .ensures) (c .compared .ensures))
 
 pub +condition-spec : {M : Type 1} → statement M
 +condition-spec = close μ-condition λ t. condition-lts.spec (condition-callees t)

@@ -178,12 +178,14 @@ fn twice(rows: &str) -> String {
 
 /// Conditions of 64 fields in few bytes, to be gone through to the end: they name no secret and are
 /// true, or name one in the last field.
-fn conditions() -> [(&'static str, String); 4] {
+fn conditions() -> [(&'static str, String); 5] {
     let sums = "add,k,1,".repeat(19);
+    let (adds, rest) = ("add,".repeat(19), ",k,1".repeat(19));
     let facts = "and,eq,k,0,k,0,".repeat(9);
     let conditions = [
         ("ands", "and,t,".repeat(29) + "not,and,not,t,not,t"),
         ("sums", format!("not,not,eq,k,20,{sums}k,1")),
+        ("sums in sums", format!("not,not,eq,k,20,{adds}k,1{rest}")),
         ("facts", format!("{facts}and,t,eq,k,0,add,k,0,k,0")),
         ("a secret", format!("not,not,lt,k,0,{sums}v,0")),
     ];

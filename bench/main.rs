@@ -176,22 +176,72 @@ fn twice(rows: &str) -> String {
     format!("{second}\n{rest}")
 }
 
+/// Draws conditions, the same ones every time.
+struct Draws(u64);
+
+impl Draws {
+    fn below(&mut self, end: usize) -> usize {
+        let next = self.0.wrapping_mul(6_364_136_223_846_793_005);
+        self.0 = next.wrapping_add(1_442_695_040_888_963_407);
+        (self.0 >> 33) as usize % end
+    }
+
+    /// An expression with so many operators: 2 fields, and 3 for each of them.
+    fn expression(&mut self, operators: usize) -> String {
+        if operators == 0 {
+            return ["k,0", "k,9", "v,0"][self.below(3)].to_string();
+        }
+        let word = ["add", "sub"][self.below(2)];
+        let first = self.below(operators);
+        let (one, other) = (
+            self.expression(first),
+            self.expression(operators - 1 - first),
+        );
+        format!("{word},{one},{other}")
+    }
+
+    /// A condition of so many fields.
+    fn condition(&mut self, fields: usize) -> String {
+        if fields < 5 {
+            return "not,".repeat(fields - 1) + "t";
+        }
+        if self.below(2) == 0 {
+            let first = 1 + self.below(fields - 2);
+            let (one, other) = (self.condition(first), self.condition(fields - 1 - first));
+            return format!("and,{one},{other}");
+        }
+        let (operators, nots) = ((fields - 5) / 3, (fields - 5) % 3);
+        let word = ["eq", "lt"][self.below(2)];
+        let first = self.below(operators + 1);
+        let (one, other) = (self.expression(first), self.expression(operators - first));
+        format!("{}{word},{one},{other}", "not,".repeat(nots))
+    }
+}
+
 /// Conditions of 64 fields in few bytes, to be gone through to the end: they name no secret and are
-/// true, or name one in the last field.
-fn conditions() -> [(&'static str, String); 5] {
+/// true, or name one in the last field.  And as many as there may be that all nest otherwise.
+fn conditions() -> [(&'static str, Vec<String>); 6] {
     let sums = "add,k,1,".repeat(19);
     let (adds, rest) = ("add,".repeat(19), ",k,1".repeat(19));
     let facts = "and,eq,k,0,k,0,".repeat(9);
+    let mut draws = Draws(1);
+    let drawn = (0..model::NODES).map(|_| draws.condition(model::CONDITION_FIELDS));
     let conditions = [
-        ("ands", "and,t,".repeat(29) + "not,and,not,t,not,t"),
-        ("sums", format!("not,not,eq,k,20,{sums}k,1")),
-        ("sums in sums", format!("not,not,eq,k,20,{adds}k,1{rest}")),
-        ("facts", format!("{facts}and,t,eq,k,0,add,k,0,k,0")),
-        ("a secret", format!("not,not,lt,k,0,{sums}v,0")),
+        ("ands", vec!["and,t,".repeat(29) + "not,and,not,t,not,t"]),
+        ("sums", vec![format!("not,not,eq,k,20,{sums}k,1")]),
+        (
+            "sums in sums",
+            vec![format!("not,not,eq,k,20,{adds}k,1{rest}")],
+        ),
+        ("facts", vec![format!("{facts}and,t,eq,k,0,add,k,0,k,0")]),
+        ("a secret", vec![format!("not,not,lt,k,0,{sums}v,0")]),
+        ("all kinds", drawn.collect()),
     ];
-    for (name, condition) in &conditions {
-        let fields = condition.split(',').count();
-        assert_eq!(fields, model::CONDITION_FIELDS, "{name}");
+    for (name, conditions) in &conditions {
+        for condition in conditions {
+            let fields = condition.split(',').count();
+            assert_eq!(fields, model::CONDITION_FIELDS, "{name}");
+        }
     }
     conditions
 }
@@ -199,11 +249,14 @@ fn conditions() -> [(&'static str, String); 5] {
 /// The nodes of a chain of reveals below the root, as deep as it may be.
 const CHAIN: usize = model::DEPTH - 1;
 
-/// A sheet for 16 participants with so many reveals of a secret of participant 0 under this
-/// condition, one at a node.  Each node pays too, so that the rows of `make` don't turn on them.
-fn sheet_of(condition: &str, reveals: usize) -> String {
-    let chain = |reveals: usize| {
-        let before = format!("c,2,0,0,r,1,0,{condition},").repeat(reveals);
+/// A sheet for 16 participants with so many reveals of a secret of participant 0 under these
+/// conditions in turn, one at a node.  Each node pays too, so that the rows of `make` don't turn on
+/// them.
+fn sheet_of(conditions: &[String], reveals: usize) -> String {
+    let mut conditions = conditions.iter().cycle();
+    let mut chain = |reveals: usize| {
+        let node = |condition: &String| format!("c,2,0,0,r,1,0,{condition},");
+        let before: String = conditions.by_ref().take(reveals).map(node).collect();
         format!("1,{before}c,1,0,0,w,0{}", ",0,0,w,0".repeat(reveals))
     };
     let each = CHAIN - 1;
@@ -217,9 +270,9 @@ fn sheet_of(condition: &str, reveals: usize) -> String {
 }
 
 /// With as many reveals as fit.
-fn full_of(condition: &str) -> String {
+fn full_of(conditions: &[String]) -> String {
     let fits = |sheet: &String| sheet.len() <= model::SHEET_BYTES;
-    let sheets = (1..model::NODES).map(|reveals| sheet_of(condition, reveals));
+    let sheets = (1..model::NODES).map(|reveals| sheet_of(conditions, reveals));
     sheets.take_while(fits).last().unwrap_or_default()
 }
 
@@ -242,8 +295,8 @@ fn rows_by_conditions(sheet: &str) -> String {
 fn requests_of_conditions() -> Vec<(String, usize, String)> {
     let (few, all) = (library::ROWS, library::ALL_ROWS);
     let mut requests = Vec::new();
-    for (name, condition) in conditions() {
-        let sheet = full_of(&condition);
+    for (name, conditions) in conditions() {
+        let sheet = full_of(&conditions);
         let make = format!("{sheet}make,0\n");
         let rows = made_rows(&make);
         let mut add = |what: &str, places: usize, part: &str| {
@@ -252,7 +305,7 @@ fn requests_of_conditions() -> Vec<(String, usize, String)> {
         add("make", few, "make,0\n");
         add("makeall", all, "makeall\n");
         add("check", few, &format!("check,0\n{rows}"));
-        if !condition.contains('v') {
+        if !conditions.iter().any(|condition| condition.contains('v')) {
             let rows = rows_by_conditions(&sheet);
             add("check by them", few, &format!("check,0\n{rows}"));
         }

@@ -71,13 +71,13 @@ unfoldable pub readC : ℕ → List ℕ → Cond × List ℕ
 readC zero fs = (neg always, fs)
 readC (suc d) fs = pickC (readC d) (readE d) (getD fs 0 0) (drop 1 fs)
 
--- "64 fields in a condition": so it is no deeper
-abbrev pub levels : ℕ
-levels = 64
+-- Each level takes a cell, and behind the last one 0 stands: there is always a level left
+abbrev pub levels : List ℕ → ℕ
+levels cells = suc (length cells)
 
 -- The condition whose cells start at c
 unfoldable pub condAt : Entries → ℕ → Cond
-condAt E c = readC levels (drop c (E .cells)) .0
+condAt E c = readC (levels (E .cells)) (drop c (E .cells)) .0
 
 -- ---- the sheet
 

@@ -1,24 +1,25 @@
 -- One law for each way out of the evaluation, and for each turn of its loops. Assumes nothing.
 use mathlib.Core.Path.{_≡_, refl, sym, ap, ap₂, _∙_, subst}
 use mathlib.Core.Logic.{inl, inr, ⊎-elim, by-cases}
-use Prim.Native.Nat.{ℕ, zero, suc, _+_, _*_, _-_, _≤_, _<_}
+use Prim.Native.Nat.{ℕ, zero, suc, _+_, _*_, _/_, _%_, _-_, _≤_, _<_}
 use native.Mathlib.Omega.{arith}
 use native.Mathlib.Decide.{decLe}
 use mathlib.Core.Bool.{Bool, true, false, not, cond}
 use mathlib.Core.List.{List, []}
-use lib.ListN.{length, getD, set, take, drop, length-set, List·getD-eq-default}
+use lib.ListN.{length, getD, set, take, drop, length-set, length-drop, List·getD-eq-default}
 use lib.Seq.{getD-drop, getD-set-same, getD-set-other, drop-drop, drop-length}
 use lib.Dec.{eqb, ltb}
 use borrow.Author.Tests.{eq-eqb, ne-eqb, eqb-true, eqb-false}
 use Rattle.bitml.specs.Lists.{_&_}
-use Rattle.bitml.specs.Sheet.{Expr, Cond, value, holds, add, sub, always, both}
+use Rattle.bitml.specs.Sheet.{Cond, value, holds, add, sub, both}
 use Rattle.bitml.specs.Runs.{closedExpr, closed, countsAlways}
 use Rattle.bitml.proofs.Lists.{and-no, and-end, and-assoc}
 use Rattle.tables.specs.Entries.{held}
-use Rattle.tables.specs.SheetOf.{pickE, readE, pickC, readC, condAt}
+use Rattle.tables.specs.SheetOf.{pickE, pickC, condAt}
 use Rattle.tables.proofs.Held.{cells-part}
 use Rattle.sheets.specs.Ready.{Ready}
-use Rattle.truth.specs.Evaluation.{Cells, Values, Step, Room, ValueAt, OperandsAt, HoldsAt, TruthOf, numbers}
+use Rattle.truth.specs.Evaluation.{Cells, Values, Step, Room, exprIn, condIn, ValueAt, secondSide, ValuesAt, OperandsAt, HoldsAt, TruthOf, numbers}
+use Rattle.truth.proofs.Levels.{readE-leaves, readC-leaves, expr-parts, cond-parts}
 
 pub step-on : (t : List ℕ) (at : ℕ) → at < length t → Step t at (at + 1)
 step-on t at h = record { same = sym (drop-drop 1 at t); up = omega arith; inside = omega arith; moved = inr (omega arith) }
@@ -28,6 +29,10 @@ step-end t at h k =
     let e : at ≡ length t = omega arith in
     let n : drop at t ≡ [] = ap (λ i. drop i t) e ∙ drop-length t in
     record { same = n ∙ sym (ap (λ xs. drop 1 xs) n); up = omega arith; inside = k; moved = inl (List·getD-eq-default t 0 {n = at} h) }
+
+-- behind a field that is not 0 comes a next one
+pub step-moved : {t : List ℕ} {at on code : ℕ} → Step t at on → code ≡ getD t at 0 → 0 < code → at < on
+step-moved s e h = ⊎-elim (λ z. absurd (omega (arith, e, h, z))) (λ z. z) (s .moved)
 
 pub peek-past : (t : List ℕ) (at : ℕ) → length t ≤ at → 0 ≡ getD t at 0
 peek-past t at h = sym (List·getD-eq-default t 0 {n = at} h)
@@ -71,6 +76,15 @@ module _ {t : List ℕ} {at sign : ℕ} {S : List ℕ} (m : Room t at sign S) wh
     long = m .long;
     small = subst (λ k. getD S (1 - sign) 0 + getD S k 0 ≤ at * 1000000000) (sym (back sign (m .side))) (omega (arith, m .small));
   }
+
+  pub any-side : {x : ℕ} → x ≤ 1 → Room t at x S
+  any-side {x} h = go (eqb x sign) refl
+    where
+      go : (b : Bool) → eqb x sign ≡ b → Room t at x S
+      go true e = subst (λ k. Room t at k S) (sym (eqb-true _ _ e)) m
+      go false e =
+          let z : 1 - sign ≡ x = omega (arith, eqb-false x sign e, h, m .side) in
+          subst (λ k. Room t at k S) z turned
 
   added-side : (y : ℕ) → getD (set S sign y) sign 0 ≡ y
   added-side y = getD-set-same S sign y 0 (omega (arith, m .side, m .long))
@@ -136,6 +150,13 @@ module _ (S : List ℕ) (l : length S ≡ 4) where
 
 -- ---- expressions and conditions
 
+pub second-most : {other : ℕ} (code : ℕ) {sign : ℕ} → sign ≤ 1 → other ≡ secondSide code sign → other ≤ 1
+second-most {other} code {sign} h e = subst (λ k. k ≤ 1) (sym e) (go (eqb code 2))
+  where
+    go : (b : Bool) → cond b sign (1 - sign) ≤ 1
+    go true = h
+    go false = omega arith
+
 -- a code that is none of the first
 three : (k : ℕ) → 1 < k → (k ≡ 2 → ⊥) → k ≡ suc (suc (suc (k - 3)))
 three k h n = omega (arith, h, n)
@@ -143,72 +164,65 @@ three k h n = omega (arith, h, n)
 four : (k : ℕ) → 2 < k → (k ≡ 3 → ⊥) → k ≡ suc (suc (suc (suc (k - 4))))
 four k h n = omega (arith, h, n)
 
--- a leaf is read in one level, so it is the same in more
-pick-leaf : (r r′ : List ℕ → Expr × List ℕ) (c : ℕ) (fs : List ℕ) → c ≤ 1 → pickE r c fs ≡ pickE r′ c fs
-unfolding pickE
-pick-leaf r r′ zero fs h = refl
-pick-leaf r r′ (suc zero) fs h = refl
-pick-leaf r r′ (suc (suc c)) fs h = absurd (omega (arith, h))
-
-read-leaf : (d : ℕ) (fs : List ℕ) → (d ≡ 0 → ⊥) → getD fs 0 0 ≤ 1 → readE 1 fs ≡ readE d fs
-unfolding readE
-read-leaf zero fs n h = absurd (n refl)
-read-leaf (suc d) fs n h = pick-leaf (readE 0) (readE d) (getD fs 0 0) (drop 1 fs) h
-
-read-always : (d : ℕ) (fs : List ℕ) → (d ≡ 0 → ⊥) → getD fs 0 0 ≡ 0 → readC d fs .0 ≡ always
-unfolding readC pickC
-read-always zero fs n h = absurd (n refl)
-read-always (suc d) fs n h = ap (λ c. pickC (readC d) (readE d) c (drop 1 fs) .0) h
-
 module _ (t values : List ℕ) where
   head-is : (at : ℕ) → getD (drop at t) 0 0 ≡ getD t at 0
   head-is at = getD-drop at t 0 0 ∙ ap (λ i. getD t i 0) (let z : at + 0 ≡ at = omega arith in z)
 
-  pub value-none : {d at sign : ℕ} {S : List ℕ} → d ≡ 0 → Room t at sign S → ValueAt t values d at sign S at S
-  unfolding readE
-  value-none {d} {at} {sign} {S} e m = rw e (record { plus = omega arith; minus = omega arith; named = sym (and-end _); left = refl; room = m })
+  -- no place is behind what comes behind it
+  pub value-up : {at sign next : ℕ} {S U : List ℕ} → at ≤ length t → ValueAt t values at sign S next U → at ≤ next
+  value-up {at} {sign} {next} h w =
+      let e : length (drop next t) ≡ length (exprIn t (drop at t) .1) = ap (λ fs. length fs) (w .left) in
+      omega (arith, h, e, readE-leaves (suc (length t)) (drop at t), length-drop at t, length-drop next t, w .room .inside)
 
-  pub value-leaf : {d at sign next : ℕ} {S U : List ℕ} → (d ≡ 0 → ⊥) → getD t at 0 ≤ 1 → ValueAt t values 1 at sign S next U → ValueAt t values d at sign S next U
-  value-leaf {d} {at} {sign} {next} {S} {U} nz h w =
-      let g : getD (drop at t) 0 0 ≤ 1 = omega (arith, h, head-is at) in
-      let q : readE 1 (drop at t) ≡ readE d (drop at t) = read-leaf d (drop at t) nz g in
-      record {
-        plus = w .plus ∙ ap (λ r. getD S sign 0 + value (numbers values) (r .0) .0) q;
-        minus = w .minus ∙ ap (λ r. getD S (1 - sign) 0 + value (numbers values) (r .0) .1) q;
-        named = w .named ∙ ap (λ r. eqb (getD S 2 0) 0 & closedExpr (r .0)) q;
-        left = w .left ∙ ap (λ r. r .1) q;
-        room = w .room;
-      }
+  pub holds-up : {at yes no next : ℕ} {S U : List ℕ} → at ≤ length t → HoldsAt t values at yes no S next U → at ≤ next
+  holds-up {at} {yes} {no} {next} h w =
+      let e : length (drop next t) ≡ length (condIn t (drop at t) .1) = ap (λ fs. length fs) (w .left) in
+      omega (arith, h, e, readC-leaves (suc (length t)) (drop at t), length-drop at t, length-drop next t, w .inside)
 
-  -- where two ways meet, the place and the slate are those of one of them
-  pub value-met : {d at sign next next′ : ℕ} {S U U′ : List ℕ} → U ≡ U′ → next ≡ next′ → ValueAt t values d at sign S next′ U′ → ValueAt t values d at sign S next U
-  value-met {d} {at} {sign} {next} {next′} {S} {U} {U′} e f w =
-      subst (λ X. ValueAt t values d at sign S next X) (sym e) (subst (λ n. ValueAt t values d at sign S n U′) (sym f) w)
+  -- ---- expressions one behind the other
 
-  module _ {d at code on : ℕ} (nz : d ≡ 0 → ⊥) (ec : code ≡ getD t at 0) (s : Step t at on) where
-    down : d ≡ suc (d - 1)
-    down = omega (arith, nz)
+  module _ (n sides : ℕ) {sign at : ℕ} {S : List ℕ} (next : ℕ) (W : List ℕ) where
+    -- one of them is all of them, where no other is due
+    pub values-last : n ≡ 0 → ValueAt t values at sign S next W → ValuesAt t values n sides sign at S next W
+    unfolding ValuesAt
+    values-last e w = subst (λ k. ValuesAt t values k sides sign at S next W) (sym e) w
 
-    readE-is : (k : ℕ) → code ≡ k → readE d (drop at t) ≡ pickE (readE (d - 1)) k (drop on t)
-    unfolding readE
+    pub values-next : {f : ℕ} {U : List ℕ} → (n ≡ 0 → ⊥) → ValueAt t values at sign S f U
+        → ValuesAt t values (n - 1) (sides / 2) (sides % 2) f U next W → ValuesAt t values n sides sign at S next W
+    unfolding ValuesAt
+    values-next {f} {U} nz v w =
+        subst (λ k. ValuesAt t values k sides sign at S next W) (let z : suc (n - 1) ≡ n = omega (arith, nz) in z) (f, U, v, w)
+
+  pub values-alone : (sides sign at next : ℕ) (S W : List ℕ) → ValuesAt t values 0 sides sign at S next W → ValueAt t values at sign S next W
+  unfolding ValuesAt
+  values-alone sides sign at next S W w = w
+
+  values-first : {sign sign′ at f : ℕ} {S U : List ℕ} (n sides next : ℕ) (W : List ℕ)
+      → ((mid : ℕ) (between : List ℕ) → ValueAt t values f sign′ U mid between → ValueAt t values at sign S mid between)
+      → ValuesAt t values n sides sign′ f U next W → ValuesAt t values n sides sign at S next W
+  unfolding ValuesAt
+  values-first zero sides next W g w = g _ _ w
+  values-first (suc n) sides next W g w = (w .0, w .1, g _ _ (w .2), w .3)
+
+  module _ {at code on : ℕ} (ec : code ≡ getD t at 0) (s : Step t at on) where
+    readE-is : (k : ℕ) → code ≡ k → exprIn t (drop at t) ≡ pickE (exprIn t) k (drop on t)
     readE-is k e =
-        ap (λ n. readE n (drop at t)) down
-        ∙ ap₂ (λ c fs. pickE (readE (d - 1)) c fs) (head-is at ∙ sym ec ∙ e) (sym (s .same))
+        expr-parts t (drop at t) (omega (arith, length-drop at t))
+        ∙ ap₂ (λ c fs. pickE (exprIn t) c fs) (head-is at ∙ sym ec ∙ e) (sym (s .same))
 
-    readC-is : (k : ℕ) → code ≡ k → readC d (drop at t) ≡ pickC (readC (d - 1)) (readE (d - 1)) k (drop on t)
-    unfolding readC
+    readC-is : (k : ℕ) → code ≡ k → condIn t (drop at t) ≡ pickC (condIn t) (exprIn t) k (drop on t)
     readC-is k e =
-        ap (λ n. readC n (drop at t)) down
-        ∙ ap₂ (λ c fs. pickC (readC (d - 1)) (readE (d - 1)) c fs) (head-is at ∙ sym ec ∙ e) (sym (s .same))
+        cond-parts t (drop at t) (omega (arith, length-drop at t))
+        ∙ ap₂ (λ c fs. pickC (condIn t) (exprIn t) c fs) (head-is at ∙ sym ec ∙ e) (sym (s .same))
 
     module _ {sign : ℕ} {S : List ℕ} (m : Room t at sign S) where
-      pub value-number : {k next : ℕ} → Cells t → code ≡ 0 → k ≡ getD t on 0 → Step t on next → ValueAt t values d at sign S next (set S sign (getD S sign 0 + k))
+      pub value-number : {k next : ℕ} → Cells t → code ≡ 0 → k ≡ getD t on 0 → Step t on next → ValueAt t values at sign S next (set S sign (getD S sign 0 + k))
       unfolding pickE
       value-number {k} {next} cs e ek n =
           let q = readE-is 0 e in
           let y = getD S sign 0 + k in
-          let w : value (numbers values) (readE d (drop at t) .0) .0 ≡ k = ap (λ r. value (numbers values) (r .0) .0) q ∙ head-is on ∙ sym ek in
-          let v : value (numbers values) (readE d (drop at t) .0) .1 ≡ 0 = ap (λ r. value (numbers values) (r .0) .1) q in
+          let w : value (numbers values) (exprIn t (drop at t) .0) .0 ≡ k = ap (λ r. value (numbers values) (r .0) .0) q ∙ head-is on ∙ sym ek in
+          let v : value (numbers values) (exprIn t (drop at t) .0) .1 ≡ 0 = ap (λ r. value (numbers values) (r .0) .1) q in
           record {
             plus = omega (arith, added-side m y, w);
             minus = omega (arith, added-other m y, v);
@@ -218,15 +232,15 @@ module _ (t values : List ℕ) where
           }
 
       pub value-secret : {j next x : ℕ} → Values values → code ≡ 1 → j ≡ getD t on 0 → x ≡ getD values j 0 → Step t on next
-          → ValueAt t values d at sign S next (set (set S sign (getD S sign 0 + x)) 2 1)
+          → ValueAt t values at sign S next (set (set S sign (getD S sign 0 + x)) 2 1)
       unfolding pickE
       value-secret {j} {next} {x} vs e ej ex n =
           let q = readE-is 1 e in
           let y = getD S sign 0 + x in
-          let w : value (numbers values) (readE d (drop at t) .0) .0 ≡ x = ap (λ r. value (numbers values) (r .0) .0) q ∙ ap (λ i. getD values i 0) (head-is on ∙ sym ej) ∙ sym ex in
-          let v : value (numbers values) (readE d (drop at t) .0) .1 ≡ 0 = ap (λ r. value (numbers values) (r .0) .1) q in
+          let w : value (numbers values) (exprIn t (drop at t) .0) .0 ≡ x = ap (λ r. value (numbers values) (r .0) .0) q ∙ ap (λ i. getD values i 0) (head-is on ∙ sym ej) ∙ sym ex in
+          let v : value (numbers values) (exprIn t (drop at t) .0) .1 ≡ 0 = ap (λ r. value (numbers values) (r .0) .1) q in
           let a = added-room m x (n .inside) (⊎-elim (λ z. absurd (omega (arith, ec, e, z))) (λ z. omega (arith, ex, vs .most j, z, n .up)) (s .moved)) in
-          let g : closedExpr (readE d (drop at t) .0) ≡ false = ap (λ r. closedExpr (r .0)) q in
+          let g : closedExpr (exprIn t (drop at t) .0) ≡ false = ap (λ r. closedExpr (r .0)) q in
           let k : getD (set (set S sign y) 2 1) 2 0 ≡ 1 = naming-named a 1 in
           record {
             plus = omega (arith, naming-side a 1, added-side m y, w);
@@ -237,49 +251,61 @@ module _ (t values : List ℕ) where
           }
 
       -- the first operand is done: what the second gives is what the whole gives
-      module _ {f : ℕ} {U : List ℕ} (wa : ValueAt t values (d - 1) on sign S f U) {next : ℕ} {W : List ℕ} where
-        pub value-add : code ≡ 2 → ValueAt t values (d - 1) f sign U next W → ValueAt t values d at sign S next W
+      module _ {f : ℕ} {U : List ℕ} (wa : ValueAt t values on sign S f U) {next : ℕ} {W : List ℕ} where
+        value-add : code ≡ 2 → ValueAt t values f sign U next W → ValueAt t values at sign S next W
         unfolding pickE
         value-add e wb =
-            let q = readE-is 2 e ∙ ap (λ fs. (add (readE (d - 1) (drop on t) .0) (readE (d - 1) fs .0), readE (d - 1) fs .1)) (sym (wa .left)) in
+            let q = readE-is 2 e ∙ ap (λ fs. (add (exprIn t (drop on t) .0) (exprIn t fs .0), exprIn t fs .1)) (sym (wa .left)) in
             record {
               plus = chain _ _ _ _ _ _ (wa .plus) (wb .plus) (ap (λ r. value (numbers values) (r .0) .0) q);
               minus = chain _ _ _ _ _ _ (wa .minus) (wb .minus) (ap (λ r. value (numbers values) (r .0) .1) q);
-              named = wb .named ∙ ap (λ b. b & closedExpr (readE (d - 1) (drop f t) .0)) (wa .named) ∙ and-assoc _ _ _ ∙ sym (ap (λ r. eqb (getD S 2 0) 0 & closedExpr (r .0)) q);
+              named = wb .named ∙ ap (λ b. b & closedExpr (exprIn t (drop f t) .0)) (wa .named) ∙ and-assoc _ _ _ ∙ sym (ap (λ r. eqb (getD S 2 0) 0 & closedExpr (r .0)) q);
               left = wb .left ∙ sym (ap (λ r. r .1) q);
               room = wb .room;
             }
 
-        pub value-sub : 1 < code → (code ≡ 2 → ⊥) → ValueAt t values (d - 1) f (1 - sign) U next W → ValueAt t values d at sign S next W
+        value-sub : 1 < code → (code ≡ 2 → ⊥) → ValueAt t values f (1 - sign) U next W → ValueAt t values at sign S next W
         unfolding pickE
         value-sub h n wb =
             let z : code ≡ suc (suc (suc (code - 3))) = three code h n in
-            let q = readE-is (suc (suc (suc (code - 3)))) z ∙ ap (λ fs. (sub (readE (d - 1) (drop on t) .0) (readE (d - 1) fs .0), readE (d - 1) fs .1)) (sym (wa .left)) in
+            let q = readE-is (suc (suc (suc (code - 3)))) z ∙ ap (λ fs. (sub (exprIn t (drop on t) .0) (exprIn t fs .0), exprIn t fs .1)) (sym (wa .left)) in
             let o = back sign (m .side) in
             record {
-              plus = chain _ _ _ _ _ _ (wa .plus) (subst (λ k. getD W k 0 ≡ getD U k 0 + value (numbers values) (readE (d - 1) (drop f t) .0) .1) o (wb .minus)) (ap (λ r. value (numbers values) (r .0) .0) q);
+              plus = chain _ _ _ _ _ _ (wa .plus) (subst (λ k. getD W k 0 ≡ getD U k 0 + value (numbers values) (exprIn t (drop f t) .0) .1) o (wb .minus)) (ap (λ r. value (numbers values) (r .0) .0) q);
               minus = chain _ _ _ _ _ _ (wa .minus) (wb .plus) (ap (λ r. value (numbers values) (r .0) .1) q);
-              named = wb .named ∙ ap (λ b. b & closedExpr (readE (d - 1) (drop f t) .0)) (wa .named) ∙ and-assoc _ _ _ ∙ sym (ap (λ r. eqb (getD S 2 0) 0 & closedExpr (r .0)) q);
+              named = wb .named ∙ ap (λ b. b & closedExpr (exprIn t (drop f t) .0)) (wa .named) ∙ and-assoc _ _ _ ∙ sym (ap (λ r. eqb (getD S 2 0) 0 & closedExpr (r .0)) q);
               left = wb .left ∙ sym (ap (λ r. r .1) q);
               room = subst (λ k. Room t next k W) o (turned (wb .room));
             }
 
-      -- no level is left for the operands
-      pub value-flat : 1 < code → d - 1 ≡ 0 → ValueAt t values d at sign S on S
-      value-flat h z = go (eqb code 2) refl
-        where
-          w : ValueAt t values (d - 1) on sign S on S
-          w = value-none z (on-room m s)
+        -- by the side of the second
+        value-second : {other : ℕ} → 1 < code → other ≡ secondSide code sign → ValueAt t values f other U next W → ValueAt t values at sign S next W
+        value-second {other} h eo wb = go (eqb code 2) refl
+          where
+            go : (b : Bool) → eqb code 2 ≡ b → ValueAt t values at sign S next W
+            go true e = value-add (eqb-true _ _ e) (subst (λ k. ValueAt t values f k U next W) (eo ∙ ap (λ b. cond b sign (1 - sign)) e) wb)
+            go false e = value-sub h (eqb-false _ _ e) (subst (λ k. ValueAt t values f k U next W) (eo ∙ ap (λ b. cond b sign (1 - sign)) e) wb)
 
-          go : (b : Bool) → eqb code 2 ≡ b → ValueAt t values d at sign S on S
-          go true e = value-add w (eqb-true _ _ e) w
-          go false e = value-sub w h (eqb-false _ _ e) (value-none z (turned (on-room m s)))
+      -- expressions one behind the other, an operator at the first
+      module _ {other : ℕ} (n sides next : ℕ) (W : List ℕ) (h : 1 < code) (eo : other ≡ secondSide code sign) where
+        -- its first operand is done
+        pub values-done : {f : ℕ} {U : List ℕ} → ValueAt t values on sign S f U → ValuesAt t values n sides other f U next W → ValuesAt t values n sides sign at S next W
+        values-done wa = values-first n sides next W (λ mid between w. value-second wa h eo w)
+
+        -- its operands are two of those that are due
+        pub values-due : ValuesAt t values (n + 1) (2 * sides + other) sign on S next W → ValuesAt t values n sides sign at S next W
+        unfolding ValuesAt
+        values-due w =
+            let o : other ≤ 1 = second-most code (m .side) eo in
+            let u : ValuesAt t values (suc n) (2 * sides + other) sign on S next W = subst (λ k. ValuesAt t values k (2 * sides + other) sign on S next W) (let z : n + 1 ≡ suc n = omega arith in z) w in
+            values-done (u .2) (subst (λ k. ValuesAt t values n k other (u .0) (u .1) next W) (let z : (2 * sides + other) / 2 ≡ sides = omega (arith, o) in z)
+            (subst (λ k. ValuesAt t values n ((2 * sides + other) / 2) k (u .0) (u .1) next W) (let z : (2 * sides + other) % 2 ≡ other = omega (arith, o) in z) (u .3)))
 
     abbrev holding : ℕ → Bool
-    holding i = holds (numbers values) (readC (d - 1) (drop i t) .0)
+    holding i = holds (numbers values) (condIn t (drop i t) .0)
 
     module _ {yes no : ℕ} {S : List ℕ} where
-      pub holds-always : length S ≡ 4 → code ≡ 0 → HoldsAt t values d at yes no S on (set S 3 yes)
+      pub holds-always : length S ≡ 4 → code ≡ 0 → HoldsAt t values at yes no S on (set S 3 yes)
       unfolding pickC
       holds-always l e =
           let q = readC-is 0 e in
@@ -291,7 +317,7 @@ module _ (t values : List ℕ) where
             long = simp length-set l;
           }
 
-      pub holds-not : {next : ℕ} {W : List ℕ} → code ≡ 2 → HoldsAt t values (d - 1) on no yes S next W → HoldsAt t values d at yes no S next W
+      pub holds-not : {next : ℕ} {W : List ℕ} → code ≡ 2 → HoldsAt t values on no yes S next W → HoldsAt t values at yes no S next W
       unfolding pickC
       holds-not e ja =
           let q = readC-is 2 e in
@@ -304,34 +330,34 @@ module _ (t values : List ℕ) where
           }
 
       -- the first condition is done
-      module _ {f : ℕ} {U : List ℕ} (e : code ≡ 1) (ja : HoldsAt t values (d - 1) on 0 1 S f U) {next : ℕ} {W : List ℕ} where
-        holds-both : {x : ℕ} → cond (holding f) x no ≡ cond (holding on & holding f) yes no → HoldsAt t values (d - 1) f x no U next W → HoldsAt t values d at yes no S next W
+      module _ {f : ℕ} {U : List ℕ} (e : code ≡ 1) (ja : HoldsAt t values on 0 1 S f U) {next : ℕ} {W : List ℕ} where
+        holds-both : {x : ℕ} → cond (holding f) x no ≡ cond (holding on & holding f) yes no → HoldsAt t values f x no U next W → HoldsAt t values at yes no S next W
         unfolding pickC
         holds-both ex jb =
-            let q = readC-is 1 e ∙ ap (λ fs. (both (readC (d - 1) (drop on t) .0) (readC (d - 1) fs .0), readC (d - 1) fs .1)) (sym (ja .left)) in
+            let q = readC-is 1 e ∙ ap (λ fs. (both (condIn t (drop on t) .0) (condIn t fs .0), condIn t fs .1)) (sym (ja .left)) in
             record {
               truth = jb .truth ∙ ex ∙ sym (ap (λ r. cond (holds (numbers values) (r .0)) yes no) q);
-              named = jb .named ∙ ap (λ b. b & closed (readC (d - 1) (drop f t) .0)) (ja .named) ∙ and-assoc _ _ _ ∙ sym (ap (λ r. eqb (getD S 2 0) 0 & closed (r .0)) q);
+              named = jb .named ∙ ap (λ b. b & closed (condIn t (drop f t) .0)) (ja .named) ∙ and-assoc _ _ _ ∙ sym (ap (λ r. eqb (getD S 2 0) 0 & closed (r .0)) q);
               left = jb .left ∙ sym (ap (λ r. r .1) q);
               inside = jb .inside;
               long = jb .long;
             }
 
-        pub holds-second : getD U 3 0 ≡ 0 → HoldsAt t values (d - 1) f yes no U next W → HoldsAt t values d at yes no S next W
+        pub holds-second : getD U 3 0 ≡ 0 → HoldsAt t values f yes no U next W → HoldsAt t values at yes no S next W
         holds-second h = holds-both (cond-second (holding on) (holding f) yes no (sym (cond-is (holding on)) ∙ ap (λ i. eqb i 0) (sym (ja .truth)) ∙ eq-eqb _ _ h))
 
-        pub holds-first : (getD U 3 0 ≡ 0 → ⊥) → HoldsAt t values (d - 1) f no no U next W → HoldsAt t values d at yes no S next W
+        pub holds-first : (getD U 3 0 ≡ 0 → ⊥) → HoldsAt t values f no no U next W → HoldsAt t values at yes no S next W
         holds-first h = holds-both (cond-first (holding on) (holding f) yes no (sym (cond-is (holding on)) ∙ ap (λ i. eqb i 0) (sym (ja .truth)) ∙ ne-eqb _ _ h))
 
       -- two expressions are compared
-      module _ {f x : ℕ} {U : List ℕ} (h : 2 < code) (w : OperandsAt t values (d - 1) on S f U)
+      module _ {f x : ℕ} {U : List ℕ} (h : 2 < code) (w : OperandsAt t values on S f U)
           (ex : x ≡ cond (cond (eqb code 3) (eqb (getD U 0 0) (getD U 1 0)) (ltb (getD U 0 0) (getD U 1 0))) yes no) where
         holds-test : (b : Bool) (c : Cond)
             → eqb code 3 ≡ b
-            → readC d (drop at t) ≡ (c, readE (d - 1) (readE (d - 1) (drop on t) .1) .1)
+            → condIn t (drop at t) ≡ (c, exprIn t (exprIn t (drop on t) .1) .1)
             → cond b (eqb (getD U 0 0) (getD U 1 0)) (ltb (getD U 0 0) (getD U 1 0)) ≡ holds (numbers values) c
-            → closed c ≡ (closedExpr (readE (d - 1) (drop on t) .0) & closedExpr (readE (d - 1) (readE (d - 1) (drop on t) .1) .0))
-            → HoldsAt t values d at yes no S f (set U 3 x)
+            → closed c ≡ (closedExpr (exprIn t (drop on t) .0) & closedExpr (exprIn t (exprIn t (drop on t) .1) .0))
+            → HoldsAt t values at yes no S f (set U 3 x)
         holds-test b c eb q h k = record {
           truth = getD-set-same U 3 x 0 (omega (arith, w .long)) ∙ ex
               ∙ ap (λ b. cond (cond b (eqb (getD U 0 0) (getD U 1 0)) (ltb (getD U 0 0) (getD U 1 0))) yes no) eb
@@ -342,36 +368,26 @@ module _ (t values : List ℕ) where
           long = simp length-set (w .long);
         }
 
-        pub holds-compared : HoldsAt t values d at yes no S f (set U 3 x)
+        pub holds-compared : HoldsAt t values at yes no S f (set U 3 x)
         unfolding pickC
         holds-compared = go (eqb code 3) refl
           where
-            go : (b : Bool) → eqb code 3 ≡ b → HoldsAt t values d at yes no S f (set U 3 x)
+            go : (b : Bool) → eqb code 3 ≡ b → HoldsAt t values at yes no S f (set U 3 x)
             go true eb = holds-test true _ eb (readC-is 3 (eqb-true _ _ eb)) (ap₂ (λ i j. eqb i j) (w .plus) (w .minus)) refl
             go false eb = holds-test false _ eb (readC-is (suc (suc (suc (suc (code - 4))))) (four code h (eqb-false _ _ eb))) (ap₂ (λ i j. ltb i j) (w .plus) (w .minus)) refl
 
-  pub holds-none : {d at yes no : ℕ} {S : List ℕ} → d ≡ 0 → at ≤ length t → length S ≡ 4 → HoldsAt t values d at yes no S at (set S 3 no)
-  unfolding readC
-  holds-none {d} {at} {yes} {no} {S} e h l = rw e (record {
-    truth = getD-set-same S 3 no 0 (omega (arith, l));
-    named = ap (λ i. eqb i 0) (getD-set-other S 3 2 no 0 (λ z. omega (arith, z))) ∙ sym (and-end _);
-    left = refl;
-    inside = h;
-    long = simp length-set l;
-  })
-
   -- the first expression adds to a clean slate, and the second to its other side
-  pub operands-are : {d at f next : ℕ} (S : List ℕ) {U W : List ℕ} → length S ≡ 4
-      → ValueAt t values d at 0 (cleaned S) f U → ValueAt t values d f 1 U next W → OperandsAt t values d at S next W
-  operands-are {d} {at} {f} {next} S {U} {W} l wa wb =
-      let p : getD U 0 0 ≡ value (numbers values) (readE d (drop at t) .0) .0 = omega (arith, wa .plus, clean-plus S l) in
-      let m : getD U 1 0 ≡ value (numbers values) (readE d (drop at t) .0) .1 = omega (arith, wa .minus, clean-minus S l) in
+  pub operands-are : {at f next : ℕ} (S : List ℕ) {U W : List ℕ} → length S ≡ 4
+      → ValueAt t values at 0 (cleaned S) f U → ValueAt t values f 1 U next W → OperandsAt t values at S next W
+  operands-are {at} {f} {next} S {U} {W} l wa wb =
+      let p : getD U 0 0 ≡ value (numbers values) (exprIn t (drop at t) .0) .0 = omega (arith, wa .plus, clean-plus S l) in
+      let m : getD U 1 0 ≡ value (numbers values) (exprIn t (drop at t) .0) .1 = omega (arith, wa .minus, clean-minus S l) in
       record {
-        plus = wb .minus ∙ ap₂ (λ x fs. x + value (numbers values) (readE d fs .0) .1) p (wa .left);
-        minus = wb .plus ∙ swap _ _ ∙ ap₂ (λ x fs. value (numbers values) (readE d fs .0) .0 + x) m (wa .left);
-        named = wb .named ∙ ap (λ b. b & closedExpr (readE d (drop f t) .0)) (wa .named) ∙ and-assoc _ _ _
-            ∙ ap₂ (λ x fs. eqb x 0 & (closedExpr (readE d (drop at t) .0) & closedExpr (readE d fs .0))) (clean-named S) (wa .left);
-        left = wb .left ∙ ap (λ fs. readE d fs .1) (wa .left);
+        plus = wb .minus ∙ ap₂ (λ x fs. x + value (numbers values) (exprIn t fs .0) .1) p (wa .left);
+        minus = wb .plus ∙ swap _ _ ∙ ap₂ (λ x fs. value (numbers values) (exprIn t fs .0) .0 + x) m (wa .left);
+        named = wb .named ∙ ap (λ b. b & closedExpr (exprIn t (drop f t) .0)) (wa .named) ∙ and-assoc _ _ _
+            ∙ ap₂ (λ x fs. eqb x 0 & (closedExpr (exprIn t (drop at t) .0) & closedExpr (exprIn t fs .0))) (clean-named S) (wa .left);
+        left = wb .left ∙ ap (λ fs. exprIn t fs .1) (wa .left);
         inside = wb .room .inside;
         long = wb .room .long;
       }
@@ -392,27 +408,16 @@ module _ {t : List ℕ} {n : ℕ} (r : Ready t) (e : n ≡ length (held t .cells
         (λ h. r .promises .cell c (omega (arith, h)));
   })
 
-  pub lent-inside : {c : ℕ} → c < length (held t .cells) → c ≤ length (take (19304 + n - 19304) (drop 19304 t))
-  lent-inside {c} h = subst (λ xs. c ≤ length xs) lent (omega (arith, h))
+  pub lent-inside : {c : ℕ} → c < length (held t .cells) → c < length (take (19304 + n - 19304) (drop 19304 t))
+  lent-inside {c} h = subst (λ xs. c < length xs) lent h
 
-  pub lent-truth : {values : List ℕ} {c next : ℕ} {S U : List ℕ} → HoldsAt (take (19304 + n - 19304) (drop 19304 t)) values 64 c 0 1 S next U
+  pub lent-truth : {values : List ℕ} {c next : ℕ} {S U : List ℕ} → HoldsAt (take (19304 + n - 19304) (drop 19304 t)) values c 0 1 S next U
       → TruthOf (condAt (held t) c) values S U
   unfolding condAt
   lent-truth {values} {c} {next} {S} {U} h = record {
-    truth = h .truth ∙ sym (ap (λ xs. cond (holds (numbers values) (readC 64 (drop c xs) .0)) 0 1) lent);
-    named = h .named ∙ sym (ap (λ xs. eqb (getD S 2 0) 0 & closed (readC 64 (drop c xs) .0)) lent);
+    truth = h .truth ∙ sym (ap (λ xs. cond (holds (numbers values) (condIn xs (drop c xs) .0)) 0 1) lent);
+    named = h .named ∙ sym (ap (λ xs. eqb (getD S 2 0) 0 & closed (condIn xs (drop c xs) .0)) lent);
   }
-
-  pub lent-always : {values : List ℕ} {k : ℕ} (c : ℕ) (S : List ℕ) → length S ≡ 4 → k ≡ getD (take (19304 + n - 19304) (drop 19304 t)) c 0 → k ≡ 0
-      → TruthOf (condAt (held t) c) values S (set S 3 0)
-  unfolding condAt
-  lent-always {values} {k} c S l ek z =
-      let h : getD (held t .cells) c 0 ≡ 0 = ap (λ xs. getD xs c 0) lent ∙ sym ek ∙ z in
-      let q : condAt (held t) c ≡ always = read-always 64 (drop c (held t .cells)) (λ e. omega (arith, e)) (head-is (held t .cells) values c ∙ h) in
-      record {
-        truth = getD-set-same S 3 0 0 (omega (arith, l)) ∙ sym (ap (λ p. cond (holds (numbers values) p) 0 1) q);
-        named = ap (λ i. eqb i 0) (getD-set-other S 3 2 0 0 (λ e. omega (arith, e))) ∙ sym (and-end _) ∙ sym (ap (λ p. eqb (getD S 2 0) 0 & closed p) q);
-      }
 
 -- ---- what the slate tells
 

@@ -1,5 +1,5 @@
-// Whether a condition holds, and whether it names a secret: one evaluation tells both. It reads the cells that are left, and the count of
-// levels falls. What it finds it writes on a slate that the caller lends.
+// Whether a condition holds, and whether it names a secret: one evaluation tells both. It goes over the cells that are left, and their count
+// falls. What it finds it writes on a slate that the caller lends.
 use sheets::cell_total;
 use tables::Sheet;
 ghost use mathlib.Core.Path.{_≡_};
@@ -12,7 +12,7 @@ ghost use Rattle.bitml.specs.Runs.{countsAlways};
 ghost use Rattle.tables.specs.Entries.{held};
 ghost use Rattle.tables.specs.SheetOf.{condAt};
 ghost use Rattle.sheets.specs.Ready.{Ready};
-ghost use Rattle.truth.specs.Evaluation.{Cells, Values, Step, Room, ValueAt, OperandsAt, HoldsAt, TruthOf, numbers};
+ghost use Rattle.truth.specs.Evaluation.{Cells, Values, Step, Room, ValueAt, secondSide, ValuesAt, OperandsAt, HoldsAt, TruthOf, numbers};
 
 // The places of a slate. An integer is what stands at PLUS less what stands at MINUS, for a difference may be negative. At NAMED stands 0
 // while no secret was named, and at FAILS 0 where the condition holds.
@@ -23,6 +23,9 @@ const MINUS: usize = 1;
 const NAMED: usize = 2;
 
 const FAILS: usize = 3;
+
+// From here on a number takes no further bit.
+const FULL: usize = 9223372036854775808;
 
 // What stands at a place, and 0 past the end.
 fn peek(t: &[usize], at: usize) -> usize
@@ -45,7 +48,7 @@ fn leaf(cells: &[usize], values: &[usize], at: usize, sign: usize, slate: &mut [
     requires { ⌜ Values (now values) ⌝ }
     requires { ⌜ Room (now cells) at sign (now slate) ⌝ }
     requires { ⌜ getD (now cells) at 0 ≤ 1 ⌝ }
-    ensures { λ r. ⌜ ValueAt (now (cells .entry)) (now (values .entry)) 1 at sign (now (slate .entry)) r (now (slate .exit)) ⌝ }
+    ensures { λ r. ⌜ ValueAt (now (cells .entry)) (now (values .entry)) at sign (now (slate .entry)) r (now (slate .exit)) ⌝ }
 {
     let word = peek(cells, at);
     let on = past(cells, at);
@@ -58,51 +61,63 @@ fn leaf(cells: &[usize], values: &[usize], at: usize, sign: usize, slate: &mut [
     past(cells, on)
 }
 
-// Adds an expression to one side of the slate, and tells the place behind it. Of two operands, the first is added by itself, and the second
-// is the next that is due, on the other side where it is taken away. A leaf, as most operands are, is added without a call of this.
-fn nested(
+// The side of an operator's second operand: the other one where it is taken away.
+fn second(word: usize, sign: usize) -> usize
+    requires { ⌜ sign ≤ 1 ⌝ }
+    ensures { λ r. ⌜ r ≡ secondSide word sign ⌝ }
+{
+    if word == Sheet::ADD { sign } else { 1 - sign }
+}
+
+// Adds an expression to one side of the slate, and those that are due behind it, as many as `behind` says: the side of each is a bit of
+// `theirs`, the next one's the lowest. Tells the place behind them all. An operator's first operand is the next, and its second is due behind
+// it; where no bit is left for that, the first is added by itself.
+fn sums(
     cells: &[usize],
     values: &[usize],
-    d: usize,
     from: usize,
     side: usize,
+    behind: usize,
+    theirs: usize,
     slate: &mut [usize; 4],
 ) -> usize
     requires { ⌜ Cells (now cells) ⌝ }
     requires { ⌜ Values (now values) ⌝ }
     requires { ⌜ Room (now cells) from side (now slate) ⌝ }
-    requires { ⌜ 0 < d ⌝ }
-    ensures { λ r. ⌜ ValueAt (now (cells .entry)) (now (values .entry)) d from side (now (slate .entry)) r (now (slate .exit)) ⌝ }
+    requires { ⌜ behind ≤ from ⌝ }
+    ensures { λ r. ⌜ ValuesAt (now (cells .entry)) (now (values .entry)) behind theirs side from (now (slate .entry)) r (now (slate .exit)) ⌝ }
 {
     let mut at = from;
-    let mut left = d;
     let mut sign = side;
+    let mut due = behind;
+    let mut sides = theirs;
     loop {
         let word = peek(cells, at);
         if word <= Sheet::V {
-            return leaf(cells, values, at, sign, slate);
-        }
-        left -= 1;
-        let on = past(cells, at);
-        if left == 0 {
-            return on;
-        }
-        if peek(cells, on) <= Sheet::V {
-            at = leaf(cells, values, on, sign, slate);
+            at = leaf(cells, values, at, sign, slate);
+            if due == 0 {
+                return at;
+            }
+            due -= 1;
+            sign = sides % 2;
+            sides = sides / 2;
         } else {
-            at = nested(cells, values, left, on, sign, slate);
-        }
-        if word != Sheet::ADD {
-            sign = 1 - sign;
+            let other = second(word, sign);
+            at = past(cells, at);
+            if FULL <= sides {
+                let next = sums(cells, values, at, sign, 0, 0, slate);
+                return sums(cells, values, next, other, due, sides, slate);
+            }
+            due += 1;
+            sides = 2 * sides + other;
         }
     }
 }
 
-// The same, also where no level is left.
+// Adds one expression to a side of the slate. A leaf, as most operands are, needs no call.
 fn expression(
     cells: &[usize],
     values: &[usize],
-    d: usize,
     at: usize,
     sign: usize,
     slate: &mut [usize; 4],
@@ -110,28 +125,25 @@ fn expression(
     requires { ⌜ Cells (now cells) ⌝ }
     requires { ⌜ Values (now values) ⌝ }
     requires { ⌜ Room (now cells) at sign (now slate) ⌝ }
-    ensures { λ r. ⌜ ValueAt (now (cells .entry)) (now (values .entry)) d at sign (now (slate .entry)) r (now (slate .exit)) ⌝ }
+    ensures { λ r. ⌜ ValueAt (now (cells .entry)) (now (values .entry)) at sign (now (slate .entry)) r (now (slate .exit)) ⌝ }
 {
-    if d == 0 {
-        return at;
-    }
     if peek(cells, at) <= Sheet::V {
         return leaf(cells, values, at, sign, slate);
     }
-    nested(cells, values, d, at, sign, slate)
+    sums(cells, values, at, sign, 0, 0, slate)
 }
 
 // Puts two expressions on the slate so that PLUS less MINUS is the first less the second.
-fn operands(cells: &[usize], values: &[usize], d: usize, at: usize, slate: &mut [usize; 4]) -> usize
+fn operands(cells: &[usize], values: &[usize], at: usize, slate: &mut [usize; 4]) -> usize
     requires { ⌜ Cells (now cells) ⌝ }
     requires { ⌜ Values (now values) ⌝ }
     requires { ⌜ (at ≤ length (now cells)) × (length (now slate) ≡ 4) ⌝ }
-    ensures { λ r. ⌜ OperandsAt (now (cells .entry)) (now (values .entry)) d at (now (slate .entry)) r (now (slate .exit)) ⌝ }
+    ensures { λ r. ⌜ OperandsAt (now (cells .entry)) (now (values .entry)) at (now (slate .entry)) r (now (slate .exit)) ⌝ }
 {
     slate[PLUS] = 0;
     slate[MINUS] = 0;
-    let e = expression(cells, values, d, at, PLUS, slate);
-    expression(cells, values, d, e, MINUS, slate)
+    let e = expression(cells, values, at, PLUS, slate);
+    expression(cells, values, e, MINUS, slate)
 }
 
 // Yes where plus is minus, for `eq`, or less than minus, for `lt`.
@@ -152,29 +164,17 @@ fn compared(word: usize, plus: usize, minus: usize, yes: usize, no: usize) -> us
 
 // Puts on the slate whether a condition holds, and tells the place behind it. Of two, the first is evaluated by itself, and the second is the
 // next that is due.
-fn condition(
-    cells: &[usize],
-    values: &[usize],
-    d: usize,
-    from: usize,
-    slate: &mut [usize; 4],
-) -> usize
+fn condition(cells: &[usize], values: &[usize], from: usize, slate: &mut [usize; 4]) -> usize
     requires { ⌜ Cells (now cells) ⌝ }
     requires { ⌜ Values (now values) ⌝ }
     requires { ⌜ (from ≤ length (now cells)) × (length (now slate) ≡ 4) ⌝ }
-    ensures { λ r. ⌜ HoldsAt (now (cells .entry)) (now (values .entry)) d from 0 1 (now (slate .entry)) r (now (slate .exit)) ⌝ }
+    ensures { λ r. ⌜ HoldsAt (now (cells .entry)) (now (values .entry)) from 0 1 (now (slate .entry)) r (now (slate .exit)) ⌝ }
 {
     let mut at = from;
-    let mut left = d;
     // what to put at FAILS where the condition that is due holds, and where it doesn't
     let mut yes = 0;
     let mut no = 1;
     loop {
-        if left == 0 {
-            slate[FAILS] = no;
-            return at;
-        }
-        left -= 1;
         let word = peek(cells, at);
         at = past(cells, at);
         match word {
@@ -183,7 +183,7 @@ fn condition(
                 return at;
             }
             Sheet::AND => {
-                at = condition(cells, values, left, at, slate);
+                at = condition(cells, values, at, slate);
                 if slate[FAILS] != 0 {
                     yes = no;
                 }
@@ -194,7 +194,7 @@ fn condition(
                 no = was;
             }
             _ => {
-                at = operands(cells, values, left, at, slate);
+                at = operands(cells, values, at, slate);
                 slate[FAILS] = compared(word, slate[PLUS], slate[MINUS], yes, no);
                 return at;
             }
@@ -215,7 +215,7 @@ fn evaluate(t: &[usize], c: usize, values: &[usize], slate: &mut [usize; 4])
         slate[FAILS] = 0;
         return;
     }
-    condition(cells, values, Sheet::FIELDS, c, slate);
+    condition(cells, values, c, slate);
 }
 
 // Whether the condition whose cells start at c holds, by the number of each secret of a set.

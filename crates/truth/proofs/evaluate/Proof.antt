@@ -1,4 +1,5 @@
-use Rattle.truth.proofs.Laws.{lent-cells, lent-inside, lent-always, lent-truth}
+use Rattle.truth.proofs.Laws.{lent-cells, lent-inside, lent-truth, step-on, holds-always}
+use native.Mathlib.Omega.{arith}
 use borrow.Author.Needs.{needs}
 use Rattle.truth.proofs.evaluate.Statement.{statement}
 use Rattle.truth.proofs.evaluate.Tie as tie
@@ -27,12 +28,13 @@ element-write-slate c = search needs
 returns : tie.Need-returns
 returns c =
     let c1 = c .before in let c3 = c1 .before .before in let c6 = c3 .before .before .before in
-    lent-always (c6 .pre .0) (c3 .cell-total .ensures) (c6 .args .c) (c6 .args .slate .now) (c6 .pre .1 .0 .1) (c1 .peek .ensures) (c .if1 .taken)
+    lent-truth (c6 .pre .0) (c3 .cell-total .ensures)
+    (holds-always _ _ (c1 .peek .ensures) (step-on _ _ (lent-inside (c6 .pre .0) (c3 .cell-total .ensures) (c6 .pre .1 .0 .0))) (c6 .pre .1 .0 .1) (c .if1 .taken))
 
 condition-requires : tie.Need-condition-requires
 condition-requires c κs =
     let c4 = c .before .before .before .before in let c7 = c4 .before .before .before in
-    (lent-cells (c7 .pre .0) (c4 .cell-total .ensures), (c7 .pre .1 .1, (lent-inside (c7 .pre .0) (c4 .cell-total .ensures) (c7 .pre .1 .0 .0), c7 .pre .1 .0 .1)))
+    (lent-cells (c7 .pre .0) (c4 .cell-total .ensures), (c7 .pre .1 .1, (omega (arith, lent-inside (c7 .pre .0) (c4 .cell-total .ensures) (c7 .pre .1 .0 .0)), c7 .pre .1 .0 .1)))
 
 returns-2 : tie.Need-returns-2
 returns-2 c =

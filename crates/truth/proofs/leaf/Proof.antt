@@ -34,7 +34,7 @@ returns : tie.Need-returns
 returns c =
     let c2 = c .before .before in let c3 = c2 .before in let c4 = c3 .before in let c5 = c4 .before in
     let c8 = c5 .before .before .before in
-    value-number _ _ (λ z. omega (arith, z)) (c5 .peek .ensures) (c4 .past .ensures) (c8 .pre .1 .1 .0) (c8 .pre .0) (c3 .if1 .taken) (c2 .peek2 .ensures) (c .past2 .ensures)
+    value-number _ _ (c5 .peek .ensures) (c4 .past .ensures) (c8 .pre .1 .1 .0) (c8 .pre .0) (c3 .if1 .taken) (c2 .peek2 .ensures) (c .past2 .ensures)
 
 peek-requires-3 : tie.Need-peek-requires-3
 peek-requires-3 c κs = search needs
@@ -66,7 +66,7 @@ returns-2 : tie.Need-returns-2
 returns-2 c =
     let c2 = c .before .before in let c3 = c2 .before in let c4 = c3 .before in let c5 = c4 .before in let c6 = c5 .before in
     let c9 = c6 .before .before .before in
-    value-secret _ _ (λ z. omega (arith, z)) (c6 .peek .ensures) (c5 .past .ensures) (c9 .pre .1 .1 .0) (c9 .pre .1 .0) (omega (arith, c6 .peek .ensures, c9 .pre .1 .1 .1, c4 .if1 .left)) (c3 .peek3 .ensures) (c2 .peek4 .ensures) (c .past3 .ensures)
+    value-secret _ _ (c6 .peek .ensures) (c5 .past .ensures) (c9 .pre .1 .1 .0) (c9 .pre .1 .0) (omega (arith, c6 .peek .ensures, c9 .pre .1 .1 .1, c4 .if1 .left)) (c3 .peek3 .ensures) (c2 .peek4 .ensures) (c .past3 .ensures)
 
 pub leaf-spec : {M : Type 1} → statement M
 leaf-spec =

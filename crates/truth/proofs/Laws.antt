@@ -168,16 +168,15 @@ module _ (t values : List ℕ) where
   head-is : (at : ℕ) → getD (drop at t) 0 0 ≡ getD t at 0
   head-is at = getD-drop at t 0 0 ∙ ap (λ i. getD t i 0) (let z : at + 0 ≡ at = omega arith in z)
 
-  -- no place is behind what comes behind it
+  -- where no more is left, the place is no earlier
+  later : {at next : ℕ} {fs : List ℕ} → at ≤ length t → next ≤ length t → drop next t ≡ fs → length fs ≤ length (drop at t) → at ≤ next
+  later {at} {next} h k e l = omega (arith, h, k, l, ap (λ fs. length fs) e, length-drop at t, length-drop next t)
+
   pub value-up : {at sign next : ℕ} {S U : List ℕ} → at ≤ length t → ValueAt t values at sign S next U → at ≤ next
-  value-up {at} {sign} {next} h w =
-      let e : length (drop next t) ≡ length (exprIn t (drop at t) .1) = ap (λ fs. length fs) (w .left) in
-      omega (arith, h, e, readE-leaves (suc (length t)) (drop at t), length-drop at t, length-drop next t, w .room .inside)
+  value-up {at} h w = later h (w .room .inside) (w .left) (readE-leaves (suc (length t)) (drop at t))
 
   pub holds-up : {at yes no next : ℕ} {S U : List ℕ} → at ≤ length t → HoldsAt t values at yes no S next U → at ≤ next
-  holds-up {at} {yes} {no} {next} h w =
-      let e : length (drop next t) ≡ length (condIn t (drop at t) .1) = ap (λ fs. length fs) (w .left) in
-      omega (arith, h, e, readC-leaves (suc (length t)) (drop at t), length-drop at t, length-drop next t, w .inside)
+  holds-up {at} h w = later h (w .inside) (w .left) (readC-leaves (suc (length t)) (drop at t))
 
   -- ---- expressions one behind the other
 

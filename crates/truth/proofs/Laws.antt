@@ -19,7 +19,7 @@ use Rattle.tables.specs.SheetOf.{pickE, pickC, condAt}
 use Rattle.tables.proofs.Held.{cells-part}
 use Rattle.sheets.specs.Ready.{Ready}
 use Rattle.truth.specs.Evaluation.{Cells, Values, Step, Room, exprIn, condIn, ValueAt, secondSide, ValuesAt, OperandsAt, HoldsAt, TruthOf, numbers}
-use Rattle.truth.proofs.Levels.{readE-leaves, readC-leaves, expr-parts, cond-parts}
+use Rattle.truth.proofs.Levels.{readE-shrinks, readC-shrinks, expr-parts, cond-parts}
 
 pub step-on : (t : List ℕ) (at : ℕ) → at < length t → Step t at (at + 1)
 step-on t at h = record { same = sym (drop-drop 1 at t); up = omega arith; inside = omega arith; moved = inr (omega arith) }
@@ -173,10 +173,10 @@ module _ (t values : List ℕ) where
   later {at} {next} h k e l = omega (arith, h, k, l, ap (λ fs. length fs) e, length-drop at t, length-drop next t)
 
   pub value-up : {at sign next : ℕ} {S U : List ℕ} → at ≤ length t → ValueAt t values at sign S next U → at ≤ next
-  value-up {at} h w = later h (w .room .inside) (w .left) (readE-leaves (suc (length t)) (drop at t))
+  value-up {at} h w = later h (w .room .inside) (w .left) (readE-shrinks (suc (length t)) (drop at t))
 
   pub holds-up : {at yes no next : ℕ} {S U : List ℕ} → at ≤ length t → HoldsAt t values at yes no S next U → at ≤ next
-  holds-up {at} h w = later h (w .inside) (w .left) (readC-leaves (suc (length t)) (drop at t))
+  holds-up {at} h w = later h (w .inside) (w .left) (readC-shrinks (suc (length t)) (drop at t))
 
   -- ---- expressions one behind the other
 

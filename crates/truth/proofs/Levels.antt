@@ -12,36 +12,36 @@ use Rattle.truth.specs.Evaluation.{exprIn, condIn}
 
 -- ---- what is left is no more than there was
 
-abbrev Leaves : {A : Type 0} → (List ℕ → A × List ℕ) → Type 0
-Leaves r = (fs : List ℕ) → length (r fs .1) ≤ length fs
+abbrev Shrinks : {A : Type 0} → (List ℕ → A × List ℕ) → Type 0
+Shrinks r = (fs : List ℕ) → length (r fs .1) ≤ length fs
 
-drop-leaves : (k : ℕ) (fs : List ℕ) → length (drop k fs) ≤ length fs
-drop-leaves k fs = omega (arith, length-drop k fs)
+drop-shrinks : (k : ℕ) (fs : List ℕ) → length (drop k fs) ≤ length fs
+drop-shrinks k fs = omega (arith, length-drop k fs)
 
-pickE-leaves : (r : List ℕ → Expr × List ℕ) → Leaves r → (c : ℕ) → Leaves (pickE r c)
+pickE-shrinks : (r : List ℕ → Expr × List ℕ) → Shrinks r → (c : ℕ) → Shrinks (pickE r c)
 unfolding pickE
-pickE-leaves r h zero fs = drop-leaves 1 fs
-pickE-leaves r h (suc zero) fs = drop-leaves 1 fs
-pickE-leaves r h (suc (suc zero)) fs = omega (arith, h fs, h (r fs .1))
-pickE-leaves r h (suc (suc (suc c))) fs = omega (arith, h fs, h (r fs .1))
+pickE-shrinks r h zero fs = drop-shrinks 1 fs
+pickE-shrinks r h (suc zero) fs = drop-shrinks 1 fs
+pickE-shrinks r h (suc (suc zero)) fs = omega (arith, h fs, h (r fs .1))
+pickE-shrinks r h (suc (suc (suc c))) fs = omega (arith, h fs, h (r fs .1))
 
-pub readE-leaves : (d : ℕ) → Leaves (readE d)
+pub readE-shrinks : (d : ℕ) → Shrinks (readE d)
 unfolding readE
-readE-leaves zero fs = omega arith
-readE-leaves (suc d) fs = omega (arith, pickE-leaves (readE d) (readE-leaves d) (getD fs 0 0) (drop 1 fs), drop-leaves 1 fs)
+readE-shrinks zero fs = omega arith
+readE-shrinks (suc d) fs = omega (arith, pickE-shrinks (readE d) (readE-shrinks d) (getD fs 0 0) (drop 1 fs), drop-shrinks 1 fs)
 
-pickC-leaves : (r : List ℕ → Cond × List ℕ) (e : List ℕ → Expr × List ℕ) → Leaves r → Leaves e → (c : ℕ) → Leaves (pickC r e c)
+pickC-shrinks : (r : List ℕ → Cond × List ℕ) (e : List ℕ → Expr × List ℕ) → Shrinks r → Shrinks e → (c : ℕ) → Shrinks (pickC r e c)
 unfolding pickC
-pickC-leaves r e h k zero fs = omega arith
-pickC-leaves r e h k (suc zero) fs = omega (arith, h fs, h (r fs .1))
-pickC-leaves r e h k (suc (suc zero)) fs = h fs
-pickC-leaves r e h k (suc (suc (suc zero))) fs = omega (arith, k fs, k (e fs .1))
-pickC-leaves r e h k (suc (suc (suc (suc c)))) fs = omega (arith, k fs, k (e fs .1))
+pickC-shrinks r e h k zero fs = omega arith
+pickC-shrinks r e h k (suc zero) fs = omega (arith, h fs, h (r fs .1))
+pickC-shrinks r e h k (suc (suc zero)) fs = h fs
+pickC-shrinks r e h k (suc (suc (suc zero))) fs = omega (arith, k fs, k (e fs .1))
+pickC-shrinks r e h k (suc (suc (suc (suc c)))) fs = omega (arith, k fs, k (e fs .1))
 
-pub readC-leaves : (d : ℕ) → Leaves (readC d)
+pub readC-shrinks : (d : ℕ) → Shrinks (readC d)
 unfolding readC
-readC-leaves zero fs = omega arith
-readC-leaves (suc d) fs = omega (arith, pickC-leaves (readC d) (readE d) (readC-leaves d) (readE-leaves d) (getD fs 0 0) (drop 1 fs), drop-leaves 1 fs)
+readC-shrinks zero fs = omega arith
+readC-shrinks (suc d) fs = omega (arith, pickC-shrinks (readC d) (readE d) (readC-shrinks d) (readE-shrinks d) (getD fs 0 0) (drop 1 fs), drop-shrinks 1 fs)
 
 -- ---- readings that agree on what is no longer agree on one field more
 
@@ -49,7 +49,7 @@ abbrev Agree : {A : Type 0} → (List ℕ → A × List ℕ) → (List ℕ → A
 Agree r r′ fs = (gs : List ℕ) → length gs ≤ length fs → r gs ≡ r′ gs
 
 -- two parts, one behind the other
-twice : {A B : Type 0} {r r′ : List ℕ → A × List ℕ} (f : A → A → B) (fs : List ℕ) → Leaves r → Agree r r′ fs
+twice : {A B : Type 0} {r r′ : List ℕ → A × List ℕ} (f : A → A → B) (fs : List ℕ) → Shrinks r → Agree r r′ fs
     → _≡_ {A = B × List ℕ} (f (r fs .0) (r (r fs .1) .0), r (r fs .1) .1) (f (r′ fs .0) (r′ (r′ fs .1) .0), r′ (r′ fs .1) .1)
 twice {A} {B} {r} {r′} f fs h e =
     ap (λ (y : A × List ℕ). pair (r fs .0) y) (e (r fs .1) (h fs))
@@ -58,14 +58,14 @@ twice {A} {B} {r} {r′} f fs h e =
     pair : A → A × List ℕ → B × List ℕ
     pair a y = (f a (y .0), y .1)
 
-pickE-agrees : (r r′ : List ℕ → Expr × List ℕ) (c : ℕ) (fs : List ℕ) → Leaves r → (0 < c → Agree r r′ fs) → pickE r c fs ≡ pickE r′ c fs
+pickE-agrees : (r r′ : List ℕ → Expr × List ℕ) (c : ℕ) (fs : List ℕ) → Shrinks r → (0 < c → Agree r r′ fs) → pickE r c fs ≡ pickE r′ c fs
 unfolding pickE
 pickE-agrees r r′ zero fs h e = refl
 pickE-agrees r r′ (suc zero) fs h e = refl
 pickE-agrees r r′ (suc (suc zero)) fs h e = twice add fs h (e (omega arith))
 pickE-agrees r r′ (suc (suc (suc c))) fs h e = twice sub fs h (e (omega arith))
 
-pickC-agrees : (r r′ : List ℕ → Cond × List ℕ) (s s′ : List ℕ → Expr × List ℕ) (c : ℕ) (fs : List ℕ) → Leaves r → Leaves s
+pickC-agrees : (r r′ : List ℕ → Cond × List ℕ) (s s′ : List ℕ → Expr × List ℕ) (c : ℕ) (fs : List ℕ) → Shrinks r → Shrinks s
     → (0 < c → Agree r r′ fs) → (0 < c → Agree s s′ fs) → pickC r s c fs ≡ pickC r′ s′ c fs
 unfolding pickC
 pickC-agrees r r′ s s′ zero fs h k e g = refl
@@ -84,14 +84,14 @@ readE-agrees : (d e : ℕ) (fs : List ℕ) → length fs < d → length fs < e �
 unfolding readE
 readE-agrees zero e fs h k = absurd (omega (arith, h))
 readE-agrees (suc d) zero fs h k = absurd (omega (arith, k))
-readE-agrees (suc d) (suc e) fs h k = pickE-agrees (readE d) (readE e) (getD fs 0 0) (drop 1 fs) (readE-leaves d)
+readE-agrees (suc d) (suc e) fs h k = pickE-agrees (readE d) (readE e) (getD fs 0 0) (drop 1 fs) (readE-shrinks d)
     (λ o gs l. readE-agrees d e gs (omega (arith, l, fewer fs h o)) (omega (arith, l, fewer fs k o)))
 
 readC-agrees : (d e : ℕ) (fs : List ℕ) → length fs < d → length fs < e → readC d fs ≡ readC e fs
 unfolding readC
 readC-agrees zero e fs h k = absurd (omega (arith, h))
 readC-agrees (suc d) zero fs h k = absurd (omega (arith, k))
-readC-agrees (suc d) (suc e) fs h k = pickC-agrees (readC d) (readC e) (readE d) (readE e) (getD fs 0 0) (drop 1 fs) (readC-leaves d) (readE-leaves d)
+readC-agrees (suc d) (suc e) fs h k = pickC-agrees (readC d) (readC e) (readE d) (readE e) (getD fs 0 0) (drop 1 fs) (readC-shrinks d) (readE-shrinks d)
     (λ o gs l. readC-agrees d e gs (omega (arith, l, fewer fs h o)) (omega (arith, l, fewer fs k o)))
     (λ o gs l. readE-agrees d e gs (omega (arith, l, fewer fs h o)) (omega (arith, l, fewer fs k o)))
 
@@ -100,11 +100,11 @@ readC-agrees (suc d) (suc e) fs h k = pickC-agrees (readC d) (readC e) (readE d)
 module _ (t fs : List ℕ) (h : length fs ≤ length t) where
   pub expr-parts : exprIn t fs ≡ pickE (exprIn t) (getD fs 0 0) (drop 1 fs)
   unfolding readE
-  expr-parts = pickE-agrees (readE (length t)) (exprIn t) (getD fs 0 0) (drop 1 fs) (readE-leaves (length t))
+  expr-parts = pickE-agrees (readE (length t)) (exprIn t) (getD fs 0 0) (drop 1 fs) (readE-shrinks (length t))
       (λ o gs l. readE-agrees (length t) (suc (length t)) gs (omega (arith, l, fewer {d = length t} fs (omega (arith, h)) o)) (omega (arith, l, h, length-drop 1 fs)))
 
   pub cond-parts : condIn t fs ≡ pickC (condIn t) (exprIn t) (getD fs 0 0) (drop 1 fs)
   unfolding readC
-  cond-parts = pickC-agrees (readC (length t)) (condIn t) (readE (length t)) (exprIn t) (getD fs 0 0) (drop 1 fs) (readC-leaves (length t)) (readE-leaves (length t))
+  cond-parts = pickC-agrees (readC (length t)) (condIn t) (readE (length t)) (exprIn t) (getD fs 0 0) (drop 1 fs) (readC-shrinks (length t)) (readE-shrinks (length t))
       (λ o gs l. readC-agrees (length t) (suc (length t)) gs (omega (arith, l, fewer {d = length t} fs (omega (arith, h)) o)) (omega (arith, l, h, length-drop 1 fs)))
       (λ o gs l. readE-agrees (length t) (suc (length t)) gs (omega (arith, l, fewer {d = length t} fs (omega (arith, h)) o)) (omega (arith, l, h, length-drop 1 fs)))

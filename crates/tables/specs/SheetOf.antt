@@ -71,7 +71,7 @@ unfoldable pub readC : ℕ → List ℕ → Cond × List ℕ
 readC zero fs = (neg always, fs)
 readC (suc d) fs = pickC (readC d) (readE d) (getD fs 0 0) (drop 1 fs)
 
--- Each level takes a cell, and behind the last one 0 stands: there is always a level left
+-- "A condition may nest": each level takes a cell, and behind the last cell 0 stands, so this many never run out
 abbrev pub levels : List ℕ → ℕ
 levels cells = suc (length cells)
 

@@ -100,11 +100,8 @@ readC-agrees (suc d) (suc e) fs h k = pickC-agrees (readC d) (readC e) (readE d)
 module _ (t fs : List ℕ) (h : length fs ≤ length t) where
   pub expr-parts : exprIn t fs ≡ pickE (exprIn t) (getD fs 0 0) (drop 1 fs)
   unfolding readE
-  expr-parts = pickE-agrees (readE (length t)) (exprIn t) (getD fs 0 0) (drop 1 fs) (readE-shrinks (length t))
-      (λ o gs l. readE-agrees (length t) (suc (length t)) gs (omega (arith, l, fewer {d = length t} fs (omega (arith, h)) o)) (omega (arith, l, h, length-drop 1 fs)))
+  expr-parts = readE-agrees (suc (length t)) (suc (suc (length t))) fs (omega (arith, h)) (omega (arith, h))
 
   pub cond-parts : condIn t fs ≡ pickC (condIn t) (exprIn t) (getD fs 0 0) (drop 1 fs)
   unfolding readC
-  cond-parts = pickC-agrees (readC (length t)) (condIn t) (readE (length t)) (exprIn t) (getD fs 0 0) (drop 1 fs) (readC-shrinks (length t)) (readE-shrinks (length t))
-      (λ o gs l. readC-agrees (length t) (suc (length t)) gs (omega (arith, l, fewer {d = length t} fs (omega (arith, h)) o)) (omega (arith, l, h, length-drop 1 fs)))
-      (λ o gs l. readE-agrees (length t) (suc (length t)) gs (omega (arith, l, fewer {d = length t} fs (omega (arith, h)) o)) (omega (arith, l, h, length-drop 1 fs)))
+  cond-parts = readC-agrees (suc (length t)) (suc (suc (length t))) fs (omega (arith, h)) (omega (arith, h))

@@ -176,6 +176,14 @@ fn twice(rows: &str) -> String {
     format!("{second}\n{rest}")
 }
 
+/// The rows with the last two swapped.
+fn last_too_late(rows: &str) -> String {
+    let mut rows: Vec<&str> = rows.split_inclusive('\n').collect();
+    let last = rows.len() - 1;
+    rows.swap(last - 1, last);
+    rows.concat()
+}
+
 /// Draws conditions, the same ones every time.
 struct Draws(u64);
 
@@ -349,6 +357,12 @@ fn requests() -> Vec<(String, usize, String)> {
             "a row twice",
             few,
             format!("{sheet}check,0\n{}", twice(&rows)),
+        ),
+        // Refused by 21 at the last of 512 rows, so that all of them are looked at.
+        (
+            "the last row too late",
+            few,
+            format!("{sheet}check,0\n{}", last_too_late(&rows)),
         ),
         ("mixed events", few, mixed_events()),
         (

@@ -37,7 +37,7 @@ typedef struct {
 
 /* length not 0: answered; so many bytes of text were written (read, by hurkoxel_read_sheet), and number, line and field
  * are 0.
- * length 0: refused by this number (1 to 13, 20), at this line and field (both from 1; field 0 from number 10 up; line 0
+ * length 0: refused by this number (1 to 13, 20, 21), at this line and field (both from 1; field 0 from number 10 up; line 0
  * and field 0 where the request is too long, a buffer too short or a table no sheet). docs/FORMAT.md has the table. */
 typedef struct {
     size_t number, line, field, length;
@@ -55,7 +55,7 @@ typedef struct {
  *   2. A buffer of under 512 rows, or of under 180,224 bytes, gets number 7 at 0,0. Longer ones are fine.
  *   3. The request is read as a whole; its first bad field gets 2 to 9.
  *   4. It is judged. A `makeall` with under 8,192 rows lent gets number 7 at 0,0; rows given by `check` that are not
- *      accepted get 10 to 13.
+ *      accepted get 10 to 13, or 21 where their nodes fall.
  *
  * Answered: text[0] to text[length - 1] are what the program `judge` prints, with LF after each line and no zero at
  * the end; every byte from text[length] on is zero. After `make` of a liquid sheet the rows stand at rows[0] and on,

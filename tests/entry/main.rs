@@ -10,8 +10,9 @@
 //! The same memory is lent for every request and never cleared; before some calls it is filled with
 //! garbage, and what lies outside the lent parts must stay.  Of each answer the reply, every byte of
 //! text and every row is compared; a `makeall` also with the library's own answers to `make` for one
-//! participant after the other.  Every number from 1 to 19 must occur.  sheets.rs does the same for
-//! sheets as tables, for a tenth of COUNT texts.
+//! participant after the other.  The rows of a `make` are given back to `check`, in order and in another
+//! order.  Every number from 1 to 19 must occur, and 21.  sheets.rs does the same for sheets as tables,
+//! for a tenth of COUNT texts.
 
 #[path = "../model/buffers.rs"]
 mod buffers;
@@ -198,11 +199,12 @@ fn altered(due: &Due, right: &Held) -> Vec<(&'static str, Held)> {
 
 /// Right answers pass and altered ones don't; how many were tried.
 fn comparison_can_fail() -> Result<usize, String> {
-    let (t, row) = (cases::T, "row,1,0,1\nrow,0,0,");
+    let (t, row) = (cases::T, "row,1,0,1\n");
     let requests = [
         format!("{t}make,0\n"),
-        format!("{t}check,0\n{row}2\n"),
-        format!("{t}check,0\n{row}1\n"),
+        format!("{t}check,0\nrow,0,0,2\n{row}"),
+        format!("{t}check,0\nrow,0,0,1\n{row}"),
+        format!("{t}check,0\n{row}row,0,0,2\n"),
         format!("{t}play,x\nwait,499\nfire,0,1\nwait,1\nfire,0,1\n"),
         format!("{}make,0\n", cases::D),
         format!("{t}makeall\n"),
@@ -350,6 +352,11 @@ impl Parts {
 // The test
 // ---------------------------------------------------------------------------------------------
 
+/// The numbers by which requests and events are refused; 20 refuses a table.
+fn numbers() -> impl Iterator<Item = usize> {
+    (1..=19).chain([21])
+}
+
 /// What occurred.
 #[derive(Default)]
 struct Counts {
@@ -359,10 +366,13 @@ struct Counts {
     few: usize,
     long: usize,
     garbage: usize,
-    refused_requests: [usize; 20],
-    refused_events: [usize; 20],
+    refused_requests: [usize; 22],
+    refused_events: [usize; 22],
     made: usize,
     checked: usize,
+    /// Rows of `make` given back in order and in another order.
+    given_back: usize,
+    disordered: usize,
     frozen: usize,
     /// Answers to `makeall`; those that are liquid for some and frozen for others.
     parties: usize,
@@ -412,13 +422,15 @@ impl Counts {
 
     /// What should have occurred and did not.
     fn missing(&self) -> Vec<String> {
-        let mut missing: Vec<String> = (1..=19)
+        let mut missing: Vec<String> = numbers()
             .filter(|number| self.times(*number) == 0)
             .map(|number| format!("number {number}"))
             .collect();
         for (name, count) in [
             ("liquid by make", self.made),
             ("liquid by check", self.checked),
+            ("rows given back", self.given_back),
+            ("rows given back in another order", self.disordered),
             ("frozen", self.frozen),
             ("all parties", self.parties),
             ("some parties liquid", self.mixed),
@@ -477,6 +489,17 @@ fn sheets_of(folder: &Path) -> std::io::Result<Vec<(String, String)>> {
     paths.sort();
     let read = |path: &PathBuf| Ok((path.display().to_string(), std::fs::read_to_string(path)?));
     paths.iter().map(read).collect()
+}
+
+/// The node of a line `row`.
+fn node_of(row: &str) -> usize {
+    let node = row.split(',').nth(1).and_then(|node| node.parse().ok());
+    node.unwrap_or(usize::MAX)
+}
+
+/// The place of the first row whose node is below that of the row before it.
+fn first_fall(rows: &[&str]) -> Option<usize> {
+    (1..rows.len()).find(|place| node_of(rows[*place]) < node_of(rows[place - 1]))
 }
 
 impl Test {
@@ -616,9 +639,11 @@ impl Test {
             let expected = std::fs::read_to_string(Path::new(name).with_extension("expected"))?;
             for (participant, verdict) in expected.lines().enumerate() {
                 let request = format!("{sheet}make,{participant}\n");
-                let printed = self.request(name, request.as_bytes());
-                let last = printed.and_then(|lines| lines.lines().last().map(str::to_string));
-                self.compare(name, request.as_bytes(), verdict, last);
+                if let Some(printed) = self.request(name, request.as_bytes()) {
+                    self.rows_given_back(name, request.as_bytes(), &printed);
+                    let last = printed.lines().last().map(str::to_string);
+                    self.compare(name, request.as_bytes(), verdict, last);
+                }
             }
             // All of them at once.
             let request = format!("{sheet}makeall\n");
@@ -636,31 +661,49 @@ impl Test {
         Ok(sheets.len())
     }
 
-    /// The rows that `make` printed are accepted by `check`, with the same last line.
-    fn made_rows_are_accepted(&mut self, name: &str, request: &[u8], printed: &str) {
+    /// The rows that `make` printed, if it did, are accepted by `check`, with the same last line and the
+    /// same row buffer.  In another order they are refused, and sorted by node they are the same bytes.
+    fn rows_given_back(&mut self, name: &str, request: &[u8], printed: &str) {
         let text = String::from_utf8_lossy(request);
+        let mut rows: Vec<&str> = printed.split_inclusive('\n').collect();
+        let verdict = rows.pop().unwrap_or_default();
         let Some((sheet, participant)) = text.trim_end().rsplit_once("make,") else {
             return;
         };
-        let Some((rows, verdict)) = printed.trim_end().rsplit_once('\n') else {
+        if rows.is_empty() {
             return;
-        };
-        let check = format!("{sheet}check,{participant}\n{rows}\n");
-        self.known(
-            &format!("{name}, rows given back"),
-            check.as_bytes(),
-            &format!("{verdict}\n"),
-        );
+        }
+        let head = format!("{sheet}check,{participant}\n");
+        let check = head.clone() + &rows.concat();
+        let name = format!("{name}, rows given back");
+        self.counts.given_back += 1;
+        self.known(&name, check.as_bytes(), verdict);
+        // The row buffers of the library's two answers, without the model.
+        let _ = library::judge(request, &mut self.rows, &mut self.text);
+        let made = self.rows.clone();
+        let _ = library::judge(check.as_bytes(), &mut self.rows, &mut self.text);
+        if self.rows != made {
+            self.failed(&name, "other rows", check.as_bytes(), "those of `make`", "");
+        }
+        let due = rows.concat();
+        self.random.shuffle(&mut rows);
+        if let Some(place) = first_fall(&rows) {
+            self.counts.disordered += 1;
+            let line = head.lines().count() + 1 + place;
+            let other = head + &rows.concat();
+            self.known(&name, other.as_bytes(), &format!("refused,21,{line},0\n"));
+        }
+        rows.sort_by_key(|row| node_of(row));
+        if rows.concat() != due {
+            self.failed(&name, "sorted", request, &due, &rows.concat());
+        }
     }
 
     fn generated(&mut self, seed: u64, count: usize) {
         for (index, request) in Generator::new(seed).take(count).enumerate() {
             let name = format!("request {index} of seed {seed}");
-            match self.request(&name, &request) {
-                Some(printed) if printed.starts_with("row,") => {
-                    self.made_rows_are_accepted(&name, &request, &printed)
-                }
-                _ => {}
+            if let Some(printed) = self.request(&name, &request) {
+                self.rows_given_back(&name, &request, &printed);
             }
             if self.failures >= FAILURES {
                 println!("stopped after {} requests", index + 1);
@@ -671,7 +714,7 @@ impl Test {
 
     fn report(&self) {
         let counts = &self.counts;
-        for number in 1..=19 {
+        for number in numbers() {
             let requests = counts.refused_requests[number];
             let events = counts.refused_events[number];
             println!("  {number:2}: {requests:6} requests {events:7} events");
@@ -679,6 +722,10 @@ impl Test {
         println!(
             "  liquid by make {}, by check {}, frozen {}, plays {}, taken {}",
             counts.made, counts.checked, counts.frozen, counts.plays, counts.taken
+        );
+        println!(
+            "  rows of make given back {}, in another order {}",
+            counts.given_back, counts.disordered
         );
         println!(
             "  all parties {}, some of them liquid {}, too few rows for them {}",

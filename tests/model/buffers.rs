@@ -141,19 +141,23 @@ fn one_answer(cases: &mut Cases) {
         ],
     );
     cases.answered(
-        &format!("{T}check,0\nrow,1,0,7\nrow,0,0,9\n"),
+        &format!("{T}check,0\nrow,0,0,9\nrow,1,0,7\n"),
         &ANY,
         "liquid,0,2,9\n",
-        &[(0, (1, 0, 7)), (1, (0, 0, 9))],
+        &[(0, (0, 0, 9)), (1, (1, 0, 7))],
     );
     // All nodes of M but this one have exits for participant 0.
     cases.answered(&format!("{M}make,0\n"), &ANY, "frozen,0,1\n", &[]);
     let fire = format!("{W}play\nfire,0,0\n");
     cases.answered(&fire, &ANY, "taken\nend,0,0,1\n", &[]);
     let enough = ANY.map(|places| (places, TEXT));
-    let rows = format!("{T}check,0\nrow,1,0,1\nrow,0,");
-    cases.refused(&format!("{rows}9,1\n"), &enough, [6, 5, 3]);
-    cases.refused(&format!("{rows}0,1\n"), &enough, [13, 5, 0]);
+    for (rows, refusal) in [
+        ("row,0,1,1\nrow,1,9,1", [6, 5, 3]),
+        ("row,0,0,1\nrow,1,0,1", [13, 4, 0]),
+        ("row,1,0,1\nrow,0,0,2", [21, 5, 0]),
+    ] {
+        cases.refused(&format!("{T}check,0\n{rows}\n"), &enough, refusal);
+    }
 }
 
 /// "Those of participant p from 512 x p, with zeros past that participant's rows and all zeros for one

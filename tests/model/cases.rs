@@ -48,6 +48,7 @@ pub fn by_hand() -> Vec<Case> {
     branches(&mut cases);
     depth(&mut cases);
     rows(&mut cases);
+    rows_in_order(&mut cases);
     sheet_bytes(&mut cases);
     request_bytes(&mut cases);
     contracts_made(&mut cases);
@@ -248,6 +249,39 @@ fn rows(cases: &mut Cases) {
         516,
         1,
     );
+}
+
+/// "21 when a row's node is below that of the row before it", among 512 rows.
+fn rows_in_order(cases: &mut Cases) {
+    let sheet = sixteen_parties("c,1,0,0,w,0");
+    let check = |rows: &[String]| format!("{sheet}check,15\n{}", rows.concat());
+    let rows = rows_of_sixteen(0);
+    let rows: Vec<String> = rows.split_inclusive('\n').map(str::to_string).collect();
+    cases.expect("512 rows in order", &check(&rows), "liquid,15,512,8");
+    // `check` stands on line 3, so that the last row is line 515.
+    let mut other = rows.clone();
+    other.swap(510, 511);
+    cases.refused(
+        "the last two of 512 rows swapped",
+        &check(&other),
+        21,
+        515,
+        0,
+    );
+    other.rotate_right(1);
+    cases.refused(
+        "the last but one of 512 rows first",
+        &check(&other),
+        21,
+        5,
+        0,
+    );
+    other[511] = other[0].clone();
+    cases.refused("and again at the end", &check(&other), 10, 515, 0);
+    other.push(other[1].clone());
+    cases.refused("and a 513th row", &check(&other), 7, 516, 1);
+    let falling: Vec<String> = rows.into_iter().rev().collect();
+    cases.refused("512 rows by falling node", &check(&falling), 21, 5, 0);
 }
 
 /// A sheet up to the last branch of its last definition: ends after a comma, at exactly `length`

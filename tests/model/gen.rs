@@ -5,7 +5,7 @@
 //! beside `model` (it uses the model's reader, rows and ledger to make rows that are accepted and
 //! events that are taken).
 
-use super::model::{self, Action, Event, LastPart, Ledger, Request, Sheet, Value};
+use super::model::{self, Action, Event, LastPart, Ledger, Request, Row, Sheet, Value};
 
 // ---------------------------------------------------------------------------------------------
 // Chance
@@ -1086,13 +1086,43 @@ impl Generator {
     /// `check` with rows that are accepted or nearly so.
     fn add_check(&mut self, draft: &mut Draft, sheet: &Sheet) {
         let participant = self.participant(sheet, 85);
-        let reached = model::reached(sheet);
+        let mut rows = self.rows(sheet, participant);
+        if self.random.chance(45) {
+            for _ in 0..self.random.pick(&[1, 1, 1, 2, 5]) {
+                self.damage_rows(&mut rows, sheet);
+            }
+        }
+        if self.random.below(100) == 0 && !rows.is_empty() {
+            // Just at the limit of rows, or just past it.
+            let count = self.random.between(511, 514);
+            while rows.len() < count {
+                let row = self.random.pick(&rows);
+                rows.push(row);
+            }
+        }
+        self.order_rows(&mut rows);
+        draft.lines.push(vec![
+            word("check"),
+            number(participant as u64, Role::Participant),
+        ]);
+        for [node, branch, rank] in rows {
+            draft.lines.push(vec![
+                word("row"),
+                number(node as u64, Role::Node),
+                number(branch as u64, Role::Branch),
+                number(rank as u64, Role::Rank),
+            ]);
+        }
+    }
+
+    /// Rows that are accepted where the sheet is liquid for the participant: node, branch and rank.
+    fn rows(&mut self, sheet: &Sheet, participant: usize) -> Vec<[usize; 3]> {
         let exits = model::exits(sheet, participant);
         // Rows for nodes that no run reaches are taken too, where their branches allow it.
         let wanted: Vec<bool> = if self.random.chance(20) {
             vec![true; sheet.nodes.len()]
         } else {
-            reached
+            model::reached(sheet)
         };
         let keep = self.random.chance(80);
         let raise = self.random.pick(&[0, 0, 20, 100]);
@@ -1108,62 +1138,62 @@ impl Generator {
                 None => continue,
             };
             if raise > 0 && self.random.chance(30) {
-                // Another own branch whose contracts all have exits.
-                let other = self.random.below(branches);
-                let contracts = sheet.nodes[node].branches[other].contracts();
-                if sheet.is_own(node, other, participant)
-                    && contracts.iter().all(|contract| exits[*contract].is_some())
-                {
-                    branch = other;
-                }
+                branch = self
+                    .other_branch(sheet, participant, node, &exits)
+                    .unwrap_or(branch);
             }
             let contracts = sheet.nodes[node].branches[branch].contracts();
-            let sum: u64 = contracts
-                .iter()
-                .filter_map(|contract| ranks[*contract])
-                .sum();
-            let mut rank = 1 + sum;
-            if self.random.chance(raise) {
-                rank += self.random.between(0, by) as u64;
-            }
-            if raise > 0 && self.random.below(400) == 0 {
-                rank = model::RANK;
-            }
-            rank = rank.min(model::RANK);
+            let known = contracts.iter().filter_map(|contract| ranks[*contract]);
+            let rank = self.raised(1 + known.sum::<u64>(), raise, by);
             ranks[node] = Some(rank);
             if wanted[node] {
                 rows.push([node, branch, rank as usize]);
             }
         }
-        match self.random.below(3) {
-            0 => rows.reverse(),
-            1 => self.random.shuffle(&mut rows),
+        rows
+    }
+
+    /// A branch of the node, if it is own and its contracts all have exits.
+    fn other_branch(
+        &mut self,
+        sheet: &Sheet,
+        participant: usize,
+        node: usize,
+        exits: &[Option<Row>],
+    ) -> Option<usize> {
+        let other = self.random.below(sheet.nodes[node].branches.len());
+        let contracts = sheet.nodes[node].branches[other].contracts();
+        let leads_out = contracts.iter().all(|contract| exits[*contract].is_some());
+        (leads_out && sheet.is_own(node, other, participant)).then_some(other)
+    }
+
+    /// The rank, in so many of 100 cases raised by up to so much, and then now and then as high as may be.
+    fn raised(&mut self, mut rank: u64, percent: usize, by: usize) -> u64 {
+        if self.random.chance(percent) {
+            rank += self.random.between(0, by) as u64;
+        }
+        if percent > 0 && self.random.below(400) == 0 {
+            rank = model::RANK;
+        }
+        rank.min(model::RANK)
+    }
+
+    /// Most often by rising node; else with two neighbours swapped, or in any order, or so with one
+    /// row twice.
+    fn order_rows(&mut self, rows: &mut Vec<[usize; 3]>) {
+        rows.sort_by_key(|[node, ..]| *node);
+        if rows.len() < 2 {
+            return;
+        }
+        let place = self.random.below(rows.len() - 1);
+        match self.random.below(20) {
+            0 | 1 => rows.swap(place, place + 1),
+            2 => self.random.shuffle(rows),
+            3 => {
+                rows.push(rows[place]);
+                self.random.shuffle(rows);
+            }
             _ => {}
-        }
-        if self.random.chance(45) && !rows.is_empty() {
-            for _ in 0..self.random.pick(&[1, 1, 1, 2, 5]) {
-                self.damage_rows(&mut rows, sheet);
-            }
-        }
-        if self.random.below(100) == 0 && !rows.is_empty() {
-            // Just at the limit of rows, or just past it.
-            let count = self.random.between(511, 514);
-            while rows.len() < count {
-                let row = self.random.pick(&rows);
-                rows.push(row);
-            }
-        }
-        draft.lines.push(vec![
-            word("check"),
-            number(participant as u64, Role::Participant),
-        ]);
-        for [node, branch, rank] in rows {
-            draft.lines.push(vec![
-                word("row"),
-                number(node as u64, Role::Node),
-                number(branch as u64, Role::Branch),
-                number(rank as u64, Role::Rank),
-            ]);
         }
     }
 

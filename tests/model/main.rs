@@ -222,6 +222,47 @@ fn least_steps(sheet: &Sheet, participant: usize, from: usize) -> Option<u64> {
     None
 }
 
+/// The number and line that rows get behind `check` on line 9.
+fn checked(sheet: &Sheet, participant: usize, rows: &[Row]) -> Result<(), (u32, usize)> {
+    let refused = |refusal: model::Refusal| (refusal.number, refusal.line);
+    model::check(sheet, participant, rows, 9).map_err(refused)
+}
+
+/// Rows of `make` rise.  In another order they get 21 at the first that is below the one before it, and
+/// sorted they are the same again.
+fn made_in_order(
+    cases: &mut Cases,
+    random: &mut Random,
+    sheet: &Sheet,
+    participant: usize,
+    made: &[Row],
+) {
+    let falls = |pair: &[Row]| pair[1].node < pair[0].node;
+    cases.holds("made rows rise", !made.windows(2).any(falls));
+    let mut other = made.to_vec();
+    random.shuffle(&mut other);
+    // The second row is line 11.
+    let fall = other.windows(2).position(falls);
+    let due = fall.map_or(Ok(()), |place| Err((21, 11 + place)));
+    let got = checked(sheet, participant, &other);
+    cases.holds("made rows in another order", got == due);
+    other.sort_by_key(|row| row.node);
+    cases.holds("made rows sorted again", other == made);
+}
+
+/// Rows from anyone get 10 in any order, then 21 if they are not in order, else what they get sorted.
+fn checked_in_order(cases: &mut Cases, sheet: &Sheet, participant: usize, rows: &[Row]) {
+    let mut sorted = rows.to_vec();
+    sorted.sort_by_key(|row| row.node);
+    let number = |rows: &[Row]| checked(sheet, participant, rows).map_err(|(number, _)| number);
+    let due = match number(&sorted) {
+        Err(10) => Err(10),
+        other if sorted == rows => other,
+        _ => Err(21),
+    };
+    cases.holds("what the order of rows decides", number(rows) == due);
+}
+
 /// Exits, ranks and reached nodes against searches over lists; money against what was paid in.
 fn properties(cases: &mut Cases, seed: u64, count: usize) {
     let mut generator = Generator::new(seed);
@@ -248,16 +289,14 @@ fn properties(cases: &mut Cases, seed: u64, count: usize) {
             // Published rows are accepted, and no rank of theirs can be lower.
             if let Ok(made) = model::make(sheet, participant) {
                 liquid += 1;
-                cases.holds(
-                    "made rows are accepted",
-                    model::check(sheet, participant, &made, 9).is_ok(),
-                );
+                let got = checked(sheet, participant, &made);
+                cases.holds("made rows are accepted", got.is_ok());
                 let place = random.below(made.len());
                 let mut lower = made.clone();
                 lower[place].rank -= 1;
-                let refused =
-                    model::check(sheet, participant, &lower, 9).map_err(|refusal| refusal.number);
-                cases.holds("a lower rank is refused", refused == Err(13));
+                let got = checked(sheet, participant, &lower);
+                cases.holds("a lower rank is refused", got == Err((13, 10 + place)));
+                made_in_order(cases, &mut random, sheet, participant, &made);
             } else if sheet.nodes.len() <= 7 {
                 // No rows at all are accepted for a frozen sheet: try some.
                 for _ in 0..20 {
@@ -275,10 +314,13 @@ fn properties(cases: &mut Cases, seed: u64, count: usize) {
                     }
                     cases.holds(
                         "no rows for a frozen sheet",
-                        model::check(sheet, participant, &tried, 9).is_err(),
+                        checked(sheet, participant, &tried).is_err(),
                     );
                 }
             }
+        }
+        if let LastPart::Check { participant, rows } = &request.part {
+            checked_in_order(cases, sheet, *participant, rows);
         }
         // Random runs stay among the reached nodes.
         let reached = model::reached(sheet);
@@ -464,8 +506,8 @@ const LIMITS: [&str; 17] = [
 #[derive(Default)]
 struct Counts {
     requests: usize,
-    refused_requests: [usize; 20],
-    refused_events: [usize; 20],
+    refused_requests: [usize; 22],
+    refused_events: [usize; 22],
     made_liquid: usize,
     checked_liquid: usize,
     frozen: usize,
@@ -695,7 +737,8 @@ fn selftest(folder: &Path, lists: &Path) -> Result<bool, String> {
         counts.requests, counts.bytes
     );
     let mut never = Vec::new();
-    for number in 1..=19 {
+    // 20 refuses a table alone.
+    for number in (1..=19).chain([21]) {
         let (requests, events) = (
             counts.refused_requests[number],
             counts.refused_events[number],

@@ -726,16 +726,7 @@ impl<'a> Reader<'a> {
             "check" => {
                 let participant = self.thing(limit!(CheckedFor, self.participants))?;
                 self.end_line()?;
-                let mut rows: Vec<Row> = Vec::new();
-                while self.line_follows() {
-                    let row = self.row(rows.len())?;
-                    let twice = |before: &Row| before.node == row.node;
-                    if rule!(false; TwiceWhileReading: rows.iter().any(twice)) {
-                        self.field = 0;
-                        return Err(self.refusal(10));
-                    }
-                    rows.push(row);
-                }
+                let rows = self.rows()?;
                 Ok(LastPart::Check { participant, rows })
             }
             _ => {
@@ -763,6 +754,25 @@ impl<'a> Reader<'a> {
         self.begin_line();
         self.field = 1;
         Err(self.refusal(rule!(9; ExtraLineIsThree: 3)))
+    }
+
+    /// Reads the lines up to the end of the request as rows.
+    fn rows(&mut self) -> Result<Vec<Row>, Refusal> {
+        let mut rows: Vec<Row> = Vec::new();
+        while self.line_follows() {
+            let row = self.row(rows.len())?;
+            let twice = |before: &Row| before.node == row.node;
+            let falls = |before: &&Row| before.node > row.node;
+            let number = rule!(None;
+                TwiceWhileReading: rows.iter().any(twice).then_some(10),
+                FallWhileReading: rows.last().filter(falls).map(|_| 21));
+            if let Some(number) = number {
+                self.field = 0;
+                return Err(self.refusal(number));
+            }
+            rows.push(row);
+        }
+        Ok(rows)
     }
 
     /// Reads a row line, after `before` others.
@@ -1030,88 +1040,153 @@ pub fn make(sheet: &Sheet, participant: usize) -> Result<Vec<Row>, usize> {
         FrozenOnSight: Some(0),
         FrozenNamesTheHighest: nodes.rfind(frozen),
         FrozenNamesTheRoot: nodes.find(frozen).map(|_| 0));
-    match found {
-        Some(node) => Err(node),
-        None => Ok(nodes.filter_map(|node| exits[node]).collect()),
+    if let Some(node) = found {
+        return Err(node);
     }
+    let mut rows: Vec<Row> = nodes.filter_map(|node| exits[node]).collect();
+    rule!(();
+        MadeFalling: rows.reverse(),
+        MadeByRank: rows.sort_by_key(|row| row.rank),
+        MadeAsWalkedDeep: wrong::as_walked(sheet, &mut rows, true),
+        MadeAsWalkedWide: wrong::as_walked(sheet, &mut rows, false));
+    Ok(rows)
 }
+
+/// A number, and the place of the row at whose line it is told; with no row at the line of `check`.
+type Fault = (u32, Option<usize>);
 
 /// Judges rows from anyone.  `line` is the line of the word `check`.
 pub fn check(sheet: &Sheet, participant: usize, rows: &[Row], line: usize) -> Result<(), Refusal> {
     let participant = rule!(participant; CheckedForTheFirst: 0);
-    let refuse = |number, line| {
-        let field = rule!(0; RowsAtField1: 1);
-        Err(Refusal {
-            number,
-            line,
-            field,
-        })
+    rule!((); AllRowsAccepted: return Ok(()));
+    let (rank_of, twice) = ranks(sheet, rows);
+    // What is asked over all rows comes first, then the rest row by row.
+    let by_row = |(place, row): (usize, &Row)| {
+        let number = row_fault(sheet, participant, row, &rank_of);
+        let number = rule!(number;
+            TwiceRowByRow: if wrong::first_of(rows, row.node) < place { Some(10) } else { number },
+            FallRowByRow: if wrong::falls(rows, place) { Some(21) } else { number },
+            UnreachedNotJudged: number.filter(|_| reached(sheet)[row.node]));
+        number.map(|number| (number, Some(place)))
     };
-    let line_of = |index: usize| line + rule!(1; RowLinesOneEarly: 0) + index;
-    rule!((); AllRowsAccepted: return Ok(()), AllRowsDeclined: return refuse(11, line));
+    let mut by_row = rows.iter().enumerate().filter_map(by_row);
+    let found = fault_of_all(sheet, rows, &rank_of, twice).or_else(|| {
+        rule!(by_row.next();
+            NumberByNumber: by_row.min_by_key(|(number, _)| *number),
+            FallAfterAll: by_row.next().or(falling(rows).map(|place| (21, Some(place)))))
+    });
+    let Some((number, place)) = found else {
+        return Ok(());
+    };
+    let line = line + place.map_or(0, |place| place + rule!(1; RowLinesOneEarly: 0));
+    let field = rule!(0; RowsAtField1: 1, FallAtTheNode: if number == 21 { 2 } else { 0 });
+    Err(Refusal {
+        number,
+        line,
+        field,
+    })
+}
 
-    // 10 over all rows; `rank_of` then has the rank of each node with a row.
-    let first = rule!(0; RootOfTheLast: sheet.definitions.len() - 1);
-    let root = sheet.definitions[first].root;
-    if rule!(false; RootBeforeTwice: rows.iter().all(|row| row.node != root)) {
-        return refuse(11, line);
-    }
+/// The rank of each node with a row, up to the first row whose node an earlier one has; and the place of
+/// that row.
+fn ranks(sheet: &Sheet, rows: &[Row]) -> (Vec<Option<u64>>, Option<usize>) {
     let mut rank_of: Vec<Option<u64>> = vec![None; sheet.nodes.len()];
-    for (index, row) in rows.iter().enumerate() {
-        let twice = rule!(rank_of[row.node].is_some();
+    for (place, row) in rows.iter().enumerate() {
+        let again = rank_of[row.node].replace(row.rank).is_some();
+        let again = rule!(again;
             TwiceRowAllowed: false,
             TwiceRowByRow: false,
-            SameRowAllowed: rank_of[row.node].is_some() && !rows[..index].contains(row));
-        if twice {
-            let index = rule!(index;
-                TwiceAtTheFirst: wrong::first_of(rows, row.node),
-                TwiceAtTheLast: wrong::last_twice(rows));
-            return refuse(10, line_of(index));
+            SameRowAllowed: again && !rows[..place].contains(row),
+            TwiceAmongNeighbours: again && rows[place - 1].node == row.node);
+        if again {
+            return (rank_of, Some(place));
         }
-        rank_of[row.node] = Some(row.rank);
     }
-    // 11 for the root of definition 0.
-    if rule!(rank_of[root].is_none(); RootNotAsked: false) {
-        return refuse(11, rule!(line; RootAtTheFirstRow: line_of(0)));
-    }
-    // Then row by row.
-    let faults = |(index, row): (usize, &Row)| {
-        let own = |number: &usize| sheet.is_own(row.node, *number, participant);
-        let branches = &sheet.nodes[row.node].branches;
-        let asks = |number: &usize| {
-            rule!(true;
-                RowsOfTheBranchOnly: *number == row.branch,
-                RowsOfOwnOnly: own(number),
-                RowsOfFalseNotAsked: !wrong::is_false(&branches[*number]),
-                RowsOfRenewalsNotAsked: !branches[*number].is_renewal())
-        };
-        let asking = (0..branches.len()).filter(asks);
-        let mut needed = asking.flat_map(|number| sheet.replaced_by(&branches[number]));
-        let missing = needed.any(|node| rank_of[node].is_none());
-        let parts = branches[row.branch].contracts();
-        let ranks = parts.iter().filter_map(|node| rank_of[*node]);
-        let sum: u64 = rule!(ranks.sum();
-            RankByLargest: ranks.max().unwrap_or(0),
-            RankByPublished: wrong::published(sheet, participant, &parts));
-        let least = rule!(1; RankWithout1: 0) + sum;
-        let too_low = rule!(row.rank < least;
-            RankAnything: false,
-            RankExact: row.rank != least,
-            RankAbove: row.rank <= least,
-            RanksWrap: row.rank < least % 65_536,
-            RanksStop: row.rank < least.min(65_535));
-        let number = lowest([(11, missing), (12, !own(&row.branch)), (13, too_low)]);
-        let number = rule!(number;
-            TwiceRowByRow: if wrong::first_of(rows, row.node) < index { Some(10) } else { number },
-            UnreachedNotJudged: number.filter(|_| reached(sheet)[row.node]));
-        number.map(|number| (number, line_of(index)))
+    (rank_of, None)
+}
+
+/// The place of the first row whose node is below that of the row before it.
+fn falling(rows: &[Row]) -> Option<usize> {
+    let falls = |place: &usize| {
+        let (before, node) = (rows[place - 1].node, rows[*place].node);
+        rule!(node < before;
+            OrderNotAsked: false,
+            FallingAsked: node > before,
+            GapsRefused: node != before + 1,
+            ComparedWithTheFirst: node < rows[0].node,
+            ComparedAsTexts: node.to_string() < before.to_string(),
+            ComparedAsBytes: (node as u8) < before as u8)
     };
-    let mut found = rows.iter().enumerate().filter_map(faults);
-    let first = rule!(found.next(); NumberByNumber: found.min_by_key(|(number, _)| *number));
-    match first {
-        Some((number, line)) => refuse(number, line),
-        None => Ok(()),
-    }
+    let from = rule!(1; SecondNotCompared: 2);
+    let to = rule!(rows.len(); LastNotCompared: rows.len().saturating_sub(1));
+    let mut places = (from..to).filter(falls);
+    let place = rule!(places.next(); FallAtTheLast: places.last());
+    let above_zero = || rows.first().map(|row| row.node > 0);
+    rule!(place;
+        FallAtTheEarlier: place.map(|place| place - 1),
+        FirstIsZero: if above_zero() == Some(true) { Some(0) } else { place },
+        FirstAboveZero: if above_zero() == Some(false) { Some(0) } else { place })
+}
+
+/// "10 over all rows", 21 "over all rows after 10 and before 11", then "11 for the root".
+fn fault_of_all(
+    sheet: &Sheet,
+    rows: &[Row],
+    rank_of: &[Option<u64>],
+    twice: Option<usize>,
+) -> Option<Fault> {
+    let twice = twice.map(|place| {
+        let number = rule!(10;
+            AgainNextIs21: wrong::again(rows, place, |before, node| before == node),
+            AgainBelowIs21: wrong::again(rows, place, |before, node| before > node));
+        let place = rule!(place;
+            TwiceAtTheFirst: wrong::first_of(rows, rows[place].node),
+            TwiceAtTheLast: wrong::last_twice(rows));
+        (number, Some(place))
+    });
+    let number = rule!(21; FallIs20: 20, FallIs22: 22);
+    let fall = || falling(rows).map(|place| (number, rule!(Some(place); FallAtCheck: None)));
+    let first = rule!(0; RootOfTheLast: sheet.definitions.len() - 1);
+    let missing = rank_of[sheet.definitions[first].root].is_none();
+    let missing = rule!(missing; RootNotAsked: false, AllRowsDeclined: true);
+    let root = missing.then_some((11, rule!(None; RootAtTheFirstRow: Some(0))));
+    let both = || twice.into_iter().chain(fall()).min_by_key(|fault| fault.1);
+    rule!(twice.or_else(fall).or(root);
+        RootBeforeTwice: root.or(twice).or_else(fall),
+        FallBeforeTwice: fall().or(twice).or(root),
+        FirstOfBoth: both().or(root),
+        FallAfterTheRoot: twice.or(root).or_else(fall),
+        FallRowByRow: twice.or(root),
+        FallAfterAll: twice.or(root))
+}
+
+/// Of 11, 12 and 13 the lowest that applies to a row.
+fn row_fault(sheet: &Sheet, participant: usize, row: &Row, rank_of: &[Option<u64>]) -> Option<u32> {
+    let own = |number: &usize| sheet.is_own(row.node, *number, participant);
+    let branches = &sheet.nodes[row.node].branches;
+    let asks = |number: &usize| {
+        rule!(true;
+            RowsOfTheBranchOnly: *number == row.branch,
+            RowsOfOwnOnly: own(number),
+            RowsOfFalseNotAsked: !wrong::is_false(&branches[*number]),
+            RowsOfRenewalsNotAsked: !branches[*number].is_renewal())
+    };
+    let asking = (0..branches.len()).filter(asks);
+    let mut needed = asking.flat_map(|number| sheet.replaced_by(&branches[number]));
+    let missing = needed.any(|node| rank_of[node].is_none());
+    let parts = branches[row.branch].contracts();
+    let ranks = parts.iter().filter_map(|node| rank_of[*node]);
+    let sum: u64 = rule!(ranks.sum();
+        RankByLargest: ranks.max().unwrap_or(0),
+        RankByPublished: wrong::published(sheet, participant, &parts));
+    let least = rule!(1; RankWithout1: 0) + sum;
+    let too_low = rule!(row.rank < least;
+        RankAnything: false,
+        RankExact: row.rank != least,
+        RankAbove: row.rank <= least,
+        RanksWrap: row.rank < least % 65_536,
+        RanksStop: row.rank < least.min(65_535));
+    lowest([(11, missing), (12, !own(&row.branch)), (13, too_low)])
 }
 
 // ---------------------------------------------------------------------------------------------
@@ -1696,12 +1771,15 @@ fn judge_part(sheet: &Sheet, part: &LastPart, line: usize) -> Result<Printed, Re
         LastPart::Make { participant } => {
             let (text, rows) = rule!(made(sheet, *participant);
                 OnlyTInMake: made(&wrong::only_t(sheet), *participant));
-            Ok((text, buffer(&rows)))
+            let held = buffer(&rows);
+            let held = rule!(held; HeldFalling: held.into_iter().rev().collect());
+            Ok((text, held))
         }
         LastPart::MakeAll => Ok(made_for_all(sheet)),
         LastPart::Check { participant, rows } => {
             rule!(check(sheet, *participant, rows, line);
-                OnlyTInCheck: check(&wrong::only_t(sheet), *participant, rows, line))?;
+                OnlyTInCheck: check(&wrong::only_t(sheet), *participant, rows, line),
+                RowsSorted: check(sheet, *participant, &wrong::sorted(rows), line))?;
             let given = rule!(String::new();
                 CheckPrintsRows: wrong::rows_as_text(rows.iter().copied()));
             Ok((given + &liquid(sheet, *participant, rows), buffer(rows)))
@@ -1822,7 +1900,7 @@ fn fill<T: Copy + Default>(buffer: &mut [T], held: &[T]) {
 fn liquid(sheet: &Sheet, participant: usize, rows: &[Row]) -> String {
     let root = sheet.definitions[0].root;
     let row = rows.iter().find(|row| row.node == root);
-    let rank = rule!(row; RankOfTheFirstRow: rows.first()).map_or(0, |row| row.rank);
+    let rank = rule!(row; RankOfTheLastRow: rows.last()).map_or(0, |row| row.rank);
     let rank = rule!(rank;
         RankAsPublished: exits(sheet, participant)[root].map_or(0, |row| row.rank),
         RankLargest: rows.iter().map(|row| row.rank).max().unwrap_or(0));

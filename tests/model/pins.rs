@@ -56,9 +56,12 @@ fn of_tables(wrong: &Wrong) -> bool {
     matches!(wrong, Wrong::More(limit) | Wrong::Fewer(limit) if OF_TABLES.contains(limit))
 }
 
-/// Of so many generated requests, this many in a hundred turn on which conditions count.
+/// Of so many generated requests, this many in a hundred turn on a rule.
 const GENERATED: usize = 4_000;
-const SHARE: usize = 5;
+const SHARES: [(usize, Rule, &str); 2] = [
+    (5, Rule::OnlyT, "conditions other than `t`"),
+    (1, Rule::OrderNotAsked, "the order of rows"),
+];
 
 /// How many of the generated requests have another answer with the wrong rule.
 fn generated(wrong: Wrong) -> usize {
@@ -119,10 +122,12 @@ pub fn test(
         }
     }
     set_hook(hook);
-    let shown = generated(Wrong::Rule(Rule::OnlyT));
-    println!("  {shown} of {GENERATED} generated requests turn on conditions other than `t`");
-    if 100 * shown < SHARE * GENERATED {
-        failures.push(format!("under {SHARE} in a hundred of them"));
+    for (share, rule, what) in SHARES {
+        let shown = generated(Wrong::Rule(rule));
+        println!("  {shown} of {GENERATED} generated requests turn on {what}");
+        if 100 * shown < share * GENERATED {
+            failures.push(format!("under {share} in a hundred turn on {what}"));
+        }
     }
     for failure in &failures {
         println!("FAILED: {failure}");

@@ -7,6 +7,8 @@
 //! `--cfg wrong_rules` these are the right expression and nothing else is run.  With it one wrong rule
 //! at a time can be turned on, and pins.rs shows that some case then has another answer.
 
+use std::collections::VecDeque;
+
 use super::{
     exits, judge, Action, Branch, Commitment, Condition, Contract, Event, Expression, Made, Node,
     Part, Place, Reply, Row, Sheet, ALL_ROWS, ROWS,
@@ -184,6 +186,7 @@ mod switch {
         Wrong::Rule(Rule::NodesByDefinition),
         Wrong::Rule(Rule::BranchesByDefinition),
         Wrong::Rule(Rule::BranchesForetold),
+        Wrong::Rule(Rule::ComparedAsBytes),
     ];
 
     /// Pairs of refusals that may both apply at one field, row or event.
@@ -408,6 +411,7 @@ mod switch {
         FarSignersAreFour "`sign` by a participant above 65,535 gets 4"
         RowBranchOfAny "the branch of a row is any number below 16 while reading"
         TwiceWhileReading "10 is given before the lines after it are read"
+        FallWhileReading "21 is given before the lines after it are read"
         JudgedWhileReading "events are played before the lines after them are read"
         // runs and exits
         RunsFromTheLast "runs begin at the last definition"
@@ -480,6 +484,10 @@ mod switch {
         TiesToTheHigher "of equal ranks the highest branch is made"
         FirstBranch "the first branch with an exit is made"
         LastBranch "the last branch with an exit is made"
+        MadeFalling "`make` gives rows by falling node number"
+        MadeByRank "`make` gives rows by rising rank"
+        MadeAsWalkedDeep "`make` gives rows as a walk comes to their nodes, down to the last before the next"
+        MadeAsWalkedWide "`make` gives rows as a walk comes to their nodes, level by level"
         FrozenOnSight "every sheet is frozen"
         FrozenNamesTheHighest "`frozen` names the highest node"
         FrozenNamesTheRoot "`frozen` names the root"
@@ -505,7 +513,7 @@ mod switch {
         AllRowsDeclined "all rows are declined"
         CheckPrintsRows "`check` prints the rows"
         CheckedForTheFirst "`check` is for participant 0"
-        RowsAtField1 "10 to 13 are told at field 1"
+        RowsAtField1 "10 to 13 and 21 are told at field 1"
         RowLinesOneEarly "the lines of rows count from that of `check`"
         RootBeforeTwice "11 for the root comes before 10"
         TwiceRowAllowed "a node may have two rows"
@@ -513,6 +521,31 @@ mod switch {
         SameRowAllowed "the same row may stand twice"
         TwiceAtTheLast "10 is told at the last line whose node an earlier row has"
         TwiceAtTheFirst "10 is told at the first of the two"
+        TwiceAmongNeighbours "10 looks only at the row before"
+        AgainNextIs21 "a node that the row before has gets 21"
+        AgainBelowIs21 "a node that an earlier row has gets 21 if it is below that of the row before"
+        OrderNotAsked "rows may have any order"
+        RowsSorted "`check` sorts the rows itself"
+        FallingAsked "rows are asked for by falling node number"
+        GapsRefused "the nodes of rows must follow on each other"
+        FirstIsZero "a first row of a node above 0 gets 21"
+        FirstAboveZero "a first row of node 0 gets 21"
+        SecondNotCompared "the second row is not compared with the first"
+        LastNotCompared "the last row is not compared with the one before"
+        ComparedWithTheFirst "a node is compared with that of the first row"
+        ComparedAsTexts "nodes are compared as texts"
+        ComparedAsBytes "nodes are compared as bytes"
+        FallBeforeTwice "21 comes before 10"
+        FirstOfBoth "of 10 and 21 the one at the earlier row is given"
+        FallAfterTheRoot "21 comes after 11 for the root"
+        FallRowByRow "21 is found row by row with 11 to 13"
+        FallAfterAll "21 comes after 11 to 13"
+        FallAtTheEarlier "21 is told at the first of the two"
+        FallAtTheLast "21 is told at the last row that is below the one before"
+        FallAtCheck "21 is told at the line of `check`"
+        FallAtTheNode "21 is told at the field of the node"
+        FallIs20 "21 is given as 20"
+        FallIs22 "21 is given as 22"
         RootNotAsked "the root needs no row"
         RootOfTheLast "the root of the last definition needs a row"
         RootAtTheFirstRow "11 for the root is told on the line after `check`"
@@ -530,7 +563,7 @@ mod switch {
         RanksStop "sums of ranks stop at 65,535"
         UnreachedNotJudged "rows of nodes that are not reached are not judged"
         NumberByNumber "11 over all rows, then 12, then 13"
-        RankOfTheFirstRow "`liquid` has the rank of the first row"
+        RankOfTheLastRow "`liquid` has the rank of the last row"
         RankAsPublished "`liquid` has the least rank"
         RankLargest "`liquid` has the largest rank"
         ReachedRowsCounted "`liquid` counts the rows of reached nodes"
@@ -708,6 +741,7 @@ mod switch {
         PlacesByParticipants "each participant has 8,192 / K places"
         PlacesByNodes "each participant has as many places as there are nodes"
         PlacesTogether "rows of `makeall` stand one behind the other"
+        HeldFalling "the row buffer has the rows of `make` by falling node number"
         FrozenWithoutPlaces "a participant with `frozen` has no places"
         FrozenHoldsRows "a participant with `frozen` has the rows there are"
         FrozenClearsAll "one `frozen` of `makeall` clears all places"
@@ -828,6 +862,45 @@ pub fn first_of(rows: &[Row], node: usize) -> usize {
 pub fn last_twice(rows: &[Row]) -> usize {
     let twice = |place: &usize| first_of(rows, rows[*place].node) < *place;
     (0..rows.len()).rfind(twice).unwrap_or(0)
+}
+
+/// Is the row's node below that of the row before it?
+pub fn falls(rows: &[Row], place: usize) -> bool {
+    place > 0 && rows[place].node < rows[place - 1].node
+}
+
+/// What a node that an earlier row has gets: 21 if this holds of the node of the row before and its own.
+pub fn again(rows: &[Row], place: usize, holds: fn(usize, usize) -> bool) -> u32 {
+    if holds(rows[place - 1].node, rows[place].node) {
+        21
+    } else {
+        10
+    }
+}
+
+pub fn sorted(rows: &[Row]) -> Vec<Row> {
+    let mut rows = rows.to_vec();
+    rows.sort_by_key(|row| row.node);
+    rows
+}
+
+/// The rows in the order in which a walk from the root comes to their nodes.
+pub fn as_walked(sheet: &Sheet, rows: &mut [Row], deep: bool) {
+    let mut walked: Vec<usize> = Vec::new();
+    let mut next = VecDeque::from([sheet.definitions[0].root]);
+    while let Some(node) = next.pop_front() {
+        if walked.contains(&node) {
+            continue;
+        }
+        walked.push(node);
+        let before = next.len();
+        let branches = sheet.nodes[node].branches.iter();
+        next.extend(branches.flat_map(|branch| sheet.replaced_by(branch)));
+        if deep {
+            next.rotate_left(before);
+        }
+    }
+    rows.sort_by_key(|row| walked.iter().position(|node| *node == row.node));
 }
 
 /// The sum of the published ranks.

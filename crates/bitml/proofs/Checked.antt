@@ -8,12 +8,13 @@ use mathlib.Core.Bool.{Bool, true, false, false≢true}
 use mathlib.Core.List.{List, [], _∷_, _++_}
 use lib.ListN.{length}
 use lib.Dec.{eqb}
-use borrow.Author.Tests.{eqb-false, eq-eqb, ne-eqb, ltb-true, lt-ltb, le-leb, lt-leb}
+use borrow.Author.Tests.{eqb-false, eq-eqb, ne-eqb, ltb-true, lt-ltb, le-ltb, le-leb, lt-leb}
 use Rattle.bitml.specs.Lists.{_&_, _or_, ask, every, All, nil, cons}
 use Rattle.bitml.specs.Sheet.{Sheet, branchesAt, branchAt, noBranch, hasBranch, defAt}
 use Rattle.bitml.specs.Runs.{next, own}
-use Rattle.bitml.specs.Rows.{Row, has, leastRank, Distinct, empty, apart, Closed, Mine, Holds, Accepted, Wrong, missing, foreign, low, FaultAt, twice, rootless, row, Fault, orElse, repeated, rowFault, faulty, check}
+use Rattle.bitml.specs.Rows.{Row, has, leastRank, Distinct, empty, apart, Closed, Mine, Holds, Rising, end, rise, Accepted, Wrong, missing, foreign, low, FaultAt, twice, fall, rootless, row, Fault, orElse, repeated, falling, rowFault, faulty, check}
 use Rattle.bitml.proofs.Lists.{is-false, and-l, and-r, and-i, or-no-l, or-no-r, or-no, or-l, or-r, or-cases, all-head, all-tail, all-imp, all-both, every-at, every-mem, every-by-at, every-by-mem, every-not-at, every-not-mem}
+use Rattle.bitml.proofs.Order.{rising-first, rising-rest}
 
 abbrev at : ℕ → ℕ → Fault
 at n i = record { number = n; place = i }
@@ -90,6 +91,46 @@ repeated-none : (i : ℕ) (seen R : List Row) → Fresh seen R → repeated i se
 unfolding repeated
 repeated-none i seen [] f = refl
 repeated-none i seen (r ∷ R) f = let e : has seen (r .node) ≡ false = all-head (f .1) in rw e (repeated-none (suc i) (r ∷ seen) R (fresh-less seen r R f))
+
+-- ---- 21
+
+-- either the rows rise, or there is a first that is below the one before it
+record Fallen (n : ℕ) (R : List Row) : Type 0 where
+  pub before : List Row
+  pub after : List Row
+  pub last : Row
+  pub other : Row
+  pub split : R ≡ before ++ last ∷ other ∷ after
+  pub risen : Rising n (before ++ last ∷ [])
+  pub below : other .node < last .node
+
+first-fall : (n : ℕ) (q : Row) (R : List Row) → n ≤ q .node → Rising n (q ∷ R) ⊎ Fallen n (q ∷ R)
+first-fall n q [] h = inl (rise h end)
+first-fall n q (r ∷ R) h = go (decLe (q .node) (r .node)) (first-fall (q .node) r R)
+  where
+    more : Rising (q .node) (r ∷ R) ⊎ Fallen (q .node) (r ∷ R) → Rising n (q ∷ r ∷ R) ⊎ Fallen n (q ∷ r ∷ R)
+    more (inl u) = inl (rise h u)
+    more (inr w) = inr (record { before = q ∷ w .before; after = w .after; last = w .last; other = w .other; split = ap (λ Q. q ∷ Q) (w .split); risen = rise h (w .risen); below = w .below })
+
+    go : Dec (q .node ≤ r .node) → (q .node ≤ r .node → Rising (q .node) (r ∷ R) ⊎ Fallen (q .node) (r ∷ R)) → Rising n (q ∷ r ∷ R) ⊎ Fallen n (q ∷ r ∷ R)
+    go (yes k) f = more (f k)
+    go (no k) f = inr (record { before = []; after = R; last = q; other = r; split = refl; risen = rise h end; below = omega arith })
+
+risen-or-fallen : (R : List Row) → Rising 0 R ⊎ Fallen 0 R
+risen-or-fallen [] = inl end
+risen-or-fallen (r ∷ R) = first-fall 0 r R (omega arith)
+
+falling-at : (i n : ℕ) (before after : List Row) (q r : Row) → Rising n (before ++ q ∷ []) → r .node < q .node
+    → falling i n (before ++ q ∷ r ∷ after) ≡ at 21 (suc (i + length before))
+unfolding falling
+falling-at i n [] after q r u h = rw (le-ltb (q .node) n (rising-first u), lt-ltb (r .node) (q .node) h) (ap (at 21) (omega arith))
+falling-at i n (x ∷ before) after q r u h =
+    rw (le-ltb (x .node) n (rising-first u)) (falling-at (suc i) (x .node) before after q r (rising-rest u) h ∙ ap (at 21) (omega arith))
+
+falling-none : (i n : ℕ) (R : List Row) → Rising n R → falling i n R .number ≡ 0
+unfolding falling
+falling-none i n [] u = refl
+falling-none i n (r ∷ R) u = rw (le-ltb (r .node) n (rising-first u)) (falling-none (suc i) (r .node) R (rising-rest u))
 
 -- ---- 11, 12 and 13 of a row
 
@@ -191,28 +232,40 @@ module _ (s : Sheet) (p : ℕ) (R : List Row) where
       let f : Fresh [] before = (d, all-fresh before) in
       let k : repeated 1 [] R ≡ at 10 (suc (length before)) = ap (repeated 1 []) e ∙ repeated-at 1 [] before after r f (or-r _ _ h) ∙ ap (at 10) (omega arith) in
       (omega arith, rw k)
-  check-at n i (rootless d e) = (omega arith, rw (repeated-none 1 [] R (d, all-fresh R), e))
-  check-at n i (row before after r m d e q a w) =
+  check-at n i (fall before after q r d e u h) =
+      let k : falling 1 0 R ≡ at 21 (suc (suc (length before))) = ap (falling 1 0) e ∙ falling-at 1 0 before after q r u h ∙ ap (at 21) (omega arith) in
+      (omega arith, rw (repeated-none 1 [] R (d, all-fresh R), k))
+  check-at n i (rootless d u e) = (omega arith, rw (repeated-none 1 [] R (d, all-fresh R), falling-none 1 0 R u, e))
+  check-at n i (row before after r m d u e q a w) =
       let k : faulty s p R 1 R ≡ at m (suc (length before)) = ap (faulty s p R 1) q ∙ faulty-at 1 before after r m a w ∙ ap (at m) (omega arith) in
-      (wrong-some r w, rw (repeated-none 1 [] R (d, all-fresh R), e) k)
+      (wrong-some r w, rw (repeated-none 1 [] R (d, all-fresh R), falling-none 1 0 R u, e) k)
 
   check-none : Accepted s p R → check s p R .number ≡ 0
   unfolding check ask
-  check-none a = rw (repeated-none 1 [] R (a .distinct, all-fresh R), a .root) (faulty-none 1 R (a .each))
+  check-none a =
+      let q = a .asked in
+      rw (repeated-none 1 [] R (q .distinct, all-fresh R), falling-none 1 0 R (a .rising), q .root) (faulty-none 1 R (q .each))
 
-  found : Accepted s p R ⊎ ((n : ℕ) × (i : ℕ) × FaultAt s p R n i)
+  abbrev Found : Type 0
+  Found = Accepted s p R ⊎ ((n : ℕ) × (i : ℕ) × FaultAt s p R n i)
+
+  found : Found
   found = first (first-again [] R)
     where
-      third : Distinct R → has R (defAt s 0 .root) ≡ true → All (Holds s p R) R ⊎ First R → Accepted s p R ⊎ ((n : ℕ) × (i : ℕ) × FaultAt s p R n i)
-      third d e (inl a) = inl (record { distinct = d; root = e; each = a })
-      third d e (inr w) = inr (w .number, suc (length (w .before)), row (w .before) (w .after) (w .other) (w .number) d e (w .split) (w .held) (w .wrong))
+      fourth : Distinct R → Rising 0 R → has R (defAt s 0 .root) ≡ true → All (Holds s p R) R ⊎ First R → Found
+      fourth d u e (inl a) = inl (record { asked = record { distinct = d; root = e; each = a }; rising = u })
+      fourth d u e (inr w) = inr (w .number, suc (length (w .before)), row (w .before) (w .after) (w .other) (w .number) d u e (w .split) (w .held) (w .wrong))
 
-      second : Distinct R → (b : Bool) → has R (defAt s 0 .root) ≡ b → Accepted s p R ⊎ ((n : ℕ) × (i : ℕ) × FaultAt s p R n i)
-      second d true e = third d e (first-wrong R)
-      second d false e = inr (11, 0, rootless d e)
+      third : Distinct R → Rising 0 R → (b : Bool) → has R (defAt s 0 .root) ≡ b → Found
+      third d u true e = fourth d u e (first-wrong R)
+      third d u false e = inr (11, 0, rootless d u e)
 
-      first : Fresh [] R ⊎ Again [] R → Accepted s p R ⊎ ((n : ℕ) × (i : ℕ) × FaultAt s p R n i)
-      first (inl f) = second (f .0) (has R (defAt s 0 .root)) refl
+      second : Distinct R → Rising 0 R ⊎ Fallen 0 R → Found
+      second d (inl u) = third d u (has R (defAt s 0 .root)) refl
+      second d (inr w) = inr (21, suc (suc (length (w .before))), fall (w .before) (w .after) (w .last) (w .other) d (w .split) (w .risen) (w .below))
+
+      first : Fresh [] R ⊎ Again [] R → Found
+      first (inl f) = second (f .0) (risen-or-fallen R)
       first (inr w) = inr (10, suc (length (w .before)), twice (w .before) (w .after) (w .other) (w .split) (w .fresh .0) (⊎-elim (λ k. absurd (false≢true k)) (λ k. k) (or-cases _ _ (w .again))))
 
   pub check-is-accepted : (check s p R .number ≡ 0) ↔ Accepted s p R

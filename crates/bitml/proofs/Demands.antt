@@ -7,7 +7,8 @@ use Rattle.bitml.proofs.Best.{rank-is-best}
 use Rattle.bitml.proofs.Reach.{reached-sound, reached-complete}
 use Rattle.bitml.proofs.Checked.{check-is-accepted, check-is-fault}
 use Rattle.bitml.proofs.Published.{make-is, published}
-use Rattle.bitml.proofs.Ruling.{make-is-published}
+use Rattle.bitml.proofs.Sorting.{sorted-keeps, sorted-accepted}
+use Rattle.bitml.proofs.Ruling.{make-is-published, sorted-made}
 use Rattle.bitml.proofs.Liquidity.{liquidity}
 
 pub demands : Demands
@@ -22,6 +23,9 @@ demands =
       make-is-published = make-is-published;
       check-is-accepted = check-is-accepted;
       check-is-fault = check-is-fault;
+      sorted-keeps = sorted-keeps;
+      sorted-accepted = sorted-accepted;
+      sorted-made = sorted-made;
       liquidity = liquidity;
       published = λ s wf p. published s p wf;
     }

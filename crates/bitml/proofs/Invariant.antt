@@ -12,7 +12,7 @@ use borrow.Author.Tests.{eqb-true, ltb-true}
 use Rattle.bitml.specs.Lists.{_or_, sum, All, nil, cons}
 use Rattle.bitml.specs.Sheet.{Sheet, nodeAt, defAt, branchesAt, branchAt, parts}
 use Rattle.bitml.specs.Runs.{next, own}
-use Rattle.bitml.specs.Rows.{Row, has, rankOf, Holds, Accepted}
+use Rattle.bitml.specs.Rows.{Row, has, rankOf, Holds, InAnyOrder}
 use Rattle.bitml.specs.Ledger.{Ledger, Contract, Event, wait, sign, tell, fire, renew, noContract, noSet, dead, contractAt, theBranch, isRenewal, renewedAs, whenTaken, refusal, after, step, play, stipulated}
 use Rattle.bitml.specs.Promises.{WellFormed}
 use Rattle.bitml.proofs.Lists.{and-l, and-r, ask-test, all-head, all-tail, all-at, all-set, all-append, all-imp, all-mem}
@@ -71,7 +71,7 @@ dead-fits s R k e = absurd (false≢true e)
 pub fit-at : (s : Sheet) (R : List Row) (l : Ledger) (c : ℕ) → Inv s R l → FitsAlive s R (kinds l) (contractAt l c)
 fit-at s R l c h = all-at (FitsAlive s R (kinds l)) c noContract (dead-fits s R noContract) h
 
-module _ (s : Sheet) (wf : WellFormed s) (p : ℕ) (R : List Row) (ok : Accepted s p R) where
+module _ (s : Sheet) (wf : WellFormed s) (p : ℕ) (R : List Row) (ok : InAnyOrder s p R) where
   pub served : (n : ℕ) → has R n ≡ true → Served s p R n (rankOf R n)
   served n h =
       let w = row-find (Holds s p R) R n (ok .each) h in

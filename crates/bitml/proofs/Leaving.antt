@@ -10,7 +10,7 @@ use borrow.Author.Tests.{eqb-true, eq-eqb, lt-ltb, le-leb}
 use Rattle.bitml.specs.Lists.{_⇒_, sum, every, below}
 use Rattle.bitml.specs.Sheet.{Sheet, Action, withdraw, split, reveal, renewAs, nodeAt, branchesAt, branchAt, parts, signs, owns}
 use Rattle.bitml.specs.Runs.{onlySigner, ownAction}
-use Rattle.bitml.specs.Rows.{Row, rankOf, Accepted}
+use Rattle.bitml.specs.Rows.{Row, rankOf, InAnyOrder}
 use Rattle.bitml.specs.Ledger.{Ledger, Contract, Commitment, ill, kept, told, isKept, isTold, wait, sign, tell, fire, noContract, noSet, dead, contractAt, setAt, commitmentAt, theBranch, isRenewal, allSigned, revealed, signing, making, refusal, after}
 use Rattle.bitml.specs.Promises.{WellFormed}
 use Rattle.bitml.specs.Liquidity.{liveRank, Way}
@@ -25,7 +25,7 @@ use Rattle.bitml.proofs.Invariant.{Served, Fits, kinds, Inv, fit-at, in
 pub live-made : (l : Ledger) (c : ℕ) → contractAt l c .alive ≡ true → c < length (l .contracts)
 live-made l c e = in-range (λ k. k .alive) (l .contracts) c noContract refl e
 
-module _ (s : Sheet) (wf : WellFormed s) (p : ℕ) (R : List Row) (ok : Accepted s p R) where
+module _ (s : Sheet) (wf : WellFormed s) (p : ℕ) (R : List Row) (ok : InAnyOrder s p R) where
   -- Contract c lives at node n with set i; the ranks add up to m
   pub record At (c n i m : ℕ) (l : Ledger) : Type 0 where
     pub alive : contractAt l c .alive ≡ true

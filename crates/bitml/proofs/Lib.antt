@@ -10,7 +10,9 @@ pub mod Commitments
 pub mod Invariant
 pub mod Leaving
 pub mod Liquidity
+pub mod Order
 pub mod Checked
+pub mod Sorting
 pub mod Published
 pub mod Ruling
 pub mod Demands

@@ -7,7 +7,7 @@ use mathlib.Core.Bool.{true, cond}
 use mathlib.Core.List.{List}
 use lib.ListN.{length}
 use Rattle.bitml.specs.Sheet.{Sheet}
-use Rattle.bitml.specs.Rows.{Row, rankOf, Accepted}
+use Rattle.bitml.specs.Rows.{Row, rankOf, InAnyOrder}
 use Rattle.bitml.specs.Ledger.{Ledger, Contract, noContract, dead, contractAt, play, stipulated}
 use Rattle.bitml.specs.Promises.{WellFormed}
 use Rattle.bitml.specs.Liquidity.{NoneLive, liveRank, Way, Liquidity}
@@ -17,7 +17,7 @@ use Rattle.bitml.proofs.Commitments.{NumbersHeld, held-start, held-play
 use Rattle.bitml.proofs.Invariant.{Inv, fit-at, served, inv-play}
 use Rattle.bitml.proofs.Leaving.{live-made, leave-one}
 
-module _ (s : Sheet) (wf : WellFormed s) (p : ℕ) (R : List Row) (ok : Accepted s p R) where
+module _ (s : Sheet) (wf : WellFormed s) (p : ℕ) (R : List Row) (ok : InAnyOrder s p R) where
   -- A live contract has a rank
   live-rank : (l : Ledger) (c : ℕ) → Inv s R l → contractAt l c .alive ≡ true → 1 ≤ liveRank R (l .contracts)
   live-rank l c h e =

@@ -12,20 +12,17 @@ use borrow.Author.Tests.{eqb-true, eqb-false, eq-eqb}
 use Rattle.bitml.specs.Lists.{_&_, keep, below, upFrom, All}
 use Rattle.bitml.specs.Sheet.{Sheet, branchesAt, branchAt, parts}
 use Rattle.bitml.specs.Runs.{own, Reached, Liquid}
-use Rattle.bitml.specs.Rows.{Row, has, rankOf, Distinct, empty, apart, Holds, Accepted, check}
+use Rattle.bitml.specs.Rows.{has, rankOf, Distinct, empty, apart, Holds, Rising, end, rise, Accepted, check}
 use Rattle.bitml.specs.Rule.{choiceAt, rankAt, reached, rowFor, rows, stuck, liquid, frozen, verdict, make}
 use Rattle.bitml.specs.Promises.{WellFormed}
-use Rattle.bitml.specs.Demands.{Frozen, Best, Rising, start, above, Published}
+use Rattle.bitml.specs.Demands.{Frozen, Best, Published}
 use Rattle.bitml.proofs.Lists.{and-l, and-r, and-i, all-imp, all-map, all-of, map-cong, any-mem, mem-any, keep-all, keep-imp, mem-keep, mem-up, up-mem, keep-first}
 use Rattle.bitml.proofs.Actions.{own-parts}
 use Rattle.bitml.proofs.Exits.{chosen, ranked-exit, exit-ranked}
 use Rattle.bitml.proofs.Reach.{reached-sound, reached-complete, branch-reached, reached-in, root-reached}
 use Rattle.bitml.proofs.Best.{rank-is-best}
+use Rattle.bitml.proofs.Order.{rising-from}
 use Rattle.bitml.proofs.Checked.{check-is-accepted}
-
-rising-distinct : {R : List Row} → Rising R → Distinct R
-rising-distinct start = empty
-rising-distinct (above {r = r} a u) = apart (all-imp (λ q h e. let h′ : r .node < q .node = h in let e′ : r .node ≡ q .node = e in omega arith) a) (rising-distinct u)
 
 module _ (s : Sheet) (p : ℕ) where
   -- ---- rows of numbered nodes
@@ -48,15 +45,25 @@ module _ (s : Sheet) (p : ℕ) where
   unfolding rowFor
   rows-from t k n = all-map (rowFor s p) (keep-imp t (upFrom k n) (all-imp (λ m h. h .0) (up-mem k n)))
 
-  rows-rising : (t : ℕ → Bool) (k n : ℕ) → Rising (map (rowFor s p) (keep t (upFrom k n)))
+  rows-distinct : (t : ℕ → Bool) (k n : ℕ) → Distinct (map (rowFor s p) (keep t (upFrom k n)))
   unfolding rowFor
-  rows-rising t k zero = start
+  rows-distinct t k zero = empty
+  rows-distinct t k (suc n) = go (t k) (rows-distinct t (suc k) n)
+    where
+      go : (b : Bool) → Distinct (map (rowFor s p) (keep t (upFrom (suc k) n)))
+          → Distinct (map (rowFor s p) (cond b (k ∷ keep t (upFrom (suc k) n)) (keep t (upFrom (suc k) n))))
+      go true d = apart {r = rowFor s p k} (all-imp (λ q h e. let h′ : suc k ≤ q .node = h in let e′ : k ≡ q .node = e in omega arith) (rows-from t (suc k) n)) d
+      go false d = d
+
+  rows-rising : (t : ℕ → Bool) (k n : ℕ) → Rising k (map (rowFor s p) (keep t (upFrom k n)))
+  unfolding rowFor
+  rows-rising t k zero = end
   rows-rising t k (suc n) = go (t k) (rows-rising t (suc k) n)
     where
-      go : (b : Bool) → Rising (map (rowFor s p) (keep t (upFrom (suc k) n)))
-          → Rising (map (rowFor s p) (cond b (k ∷ keep t (upFrom (suc k) n)) (keep t (upFrom (suc k) n))))
-      go true d = above {r = rowFor s p k} (all-imp (λ q h. let h′ : suc k ≤ q .node = h in omega arith) (rows-from t (suc k) n)) d
-      go false d = d
+      go : (b : Bool) → Rising (suc k) (map (rowFor s p) (keep t (upFrom (suc k) n)))
+          → Rising k (map (rowFor s p) (cond b (k ∷ keep t (upFrom (suc k) n)) (keep t (upFrom (suc k) n))))
+      go true u = rise {n = k} {r = rowFor s p k} (omega arith) (rising-from {j = k} {k = suc k} (omega arith) u)
+      go false u = rising-from {j = k} {k = suc k} (omega arith) u
 
   -- ---- the published rows
 
@@ -92,9 +99,13 @@ module _ (s : Sheet) (p : ℕ) where
     unfolding Liquid rows
     rows-accepted f =
         record {
-          distinct = rising-distinct (rows-rising (reached s) 0 (length (s .nodes)));
-          root = has-row ns _ (listed _ (root-reached s wf));
-          each = all-map (rowFor s p) (all-imp (λ n e. row-holds n e (exit-ranked s wf p n (f n (reached-sound s n e)))) (keep-all (reached s) (below (length (s .nodes)))));
+          asked =
+              record {
+                distinct = rows-distinct (reached s) 0 (length (s .nodes));
+                root = has-row ns _ (listed _ (root-reached s wf));
+                each = all-map (rowFor s p) (all-imp (λ n e. row-holds n e (exit-ranked s wf p n (f n (reached-sound s n e)))) (keep-all (reached s) (below (length (s .nodes)))));
+              };
+          rising = rows-rising (reached s) 0 (length (s .nodes));
         }
 
     row-best : (n : ℕ) → reached s n ≡ true → Liquid s p → Best s p (rankOf (rows s p)) (rowFor s p n)
@@ -120,10 +131,13 @@ module _ (s : Sheet) (p : ℕ) where
     unfolding rows
     rows-published f =
         record {
-          reach = λ n. (rows-reached n, λ r. has-row ns n (listed n (reached-complete s wf n r)));
-          once = rising-distinct (rows-rising (reached s) 0 (length (s .nodes)));
+          ruled =
+              record {
+                reach = λ n. (rows-reached n, λ r. has-row ns n (listed n (reached-complete s wf n r)));
+                once = rows-distinct (reached s) 0 (length (s .nodes));
+                each = all-map (rowFor s p) (all-imp (λ n e. row-best n e f) (keep-all (reached s) (below (length (s .nodes)))));
+              };
           rising = rows-rising (reached s) 0 (length (s .nodes));
-          each = all-map (rowFor s p) (all-imp (λ n e. row-best n e f) (keep-all (reached s) (below (length (s .nodes)))));
         }
 
     -- ---- what the list of stuck nodes says

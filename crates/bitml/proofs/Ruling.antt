@@ -1,63 +1,33 @@
--- The published rule asks for one list of rows, and `make` gives it. Assumes nothing.
+-- The published rule asks for one list of rows by rising node, and `make` gives it. Assumes nothing.
 use mathlib.Core.Path.{_≡_, refl, sym, ap, ap₂, _∙_, subst}
 use mathlib.Core.Logic.{_↔_, ⊎-elim, by-cases}
 use Prim.Native.Nat.{ℕ, zero, suc, _+_, _≤_, _<_}
 use native.Mathlib.Omega.{arith}
 use native.Mathlib.Decide.{decLe}
 use mathlib.Core.Bool.{Bool, true, false, false≢true}
-use mathlib.Core.List.{List, [], _∷_, List·Memᴰ, List·Memᴰ·head, List·Memᴰ·tail}
+use mathlib.Core.List.{List, [], List·Memᴰ, List·Permᴰ}
 use lib.ListN.{length}
 use lib.Dec.{eqb}
-use borrow.Author.Tests.{eqb-true, eq-eqb}
+use borrow.Author.Tests.{eq-eqb}
 use Rattle.bitml.specs.Lists.{sum}
 use Rattle.bitml.specs.Sheet.{Sheet, branchAt, parts}
 use Rattle.bitml.specs.Runs.{Reached, Exit, leave, Liquid}
-use Rattle.bitml.specs.Rows.{Row, has, rankOf}
+use Rattle.bitml.specs.Rows.{Row, rankOf, Distinct, Rising}
+use Rattle.bitml.specs.Sorting.{sorted}
 use Rattle.bitml.specs.Rule.{rows, Verdict, liquid, frozen, make}
 use Rattle.bitml.specs.Promises.{WellFormed}
-use Rattle.bitml.specs.Demands.{Serves, costBy, Best, Rising, above, Published}
-use Rattle.bitml.proofs.Lists.{or-l, or-r, or-cases, all-of, any-mem, mem-any, map-cong}
+use Rattle.bitml.specs.Demands.{Serves, costBy, Best, Ruled, Published}
+use Rattle.bitml.proofs.Lists.{all-of, all-imp, mem-any, map-cong}
 use Rattle.bitml.proofs.Actions.{own-parts}
 use Rattle.bitml.proofs.Trees.{exit-is-tree}
 use Rattle.bitml.proofs.Reach.{reached-sound, reached-complete, branch-reached, reached-in}
 use Rattle.bitml.proofs.Invariant.{row-find}
+use Rattle.bitml.proofs.Order.{same-lists}
+use Rattle.bitml.proofs.Sorting.{perm-all, perm-distinct, perm-has, perm-ranks, sorted-keeps, sorted-rises}
 use Rattle.bitml.proofs.Published.{make-is, published, rows-published}
 
 abbrev row : ℕ → ℕ → ℕ → Row
 row n b k = record { node = n; branch = b; rank = k }
-
--- ---- rising rows of the same nodes
-
-behind : {r : Row} {R : List Row} (n : ℕ) → Rising (r ∷ R) → has R n ≡ true → r .node < n
-behind {r} {R} n (above a u) h =
-    let w = any-mem (λ q. eqb (q .node) n) R h in
-    let k : r .node < w .0 .node = all-of a (w .1) in
-    omega (arith, eqb-true (w .0 .node) n (w .2))
-
-first : (r : Row) (R : List Row) (n : ℕ) → Rising (r ∷ R) → has (r ∷ R) n ≡ true → r .node ≤ n
-first r R n u h = ⊎-elim (λ e. omega (arith, eqb-true (r .node) n e)) (λ k. omega (arith, behind n u k)) (or-cases _ _ h)
-
-rest : {r : Row} {R : List Row} → Rising (r ∷ R) → Rising R
-rest (above a u) = u
-
-later : (q : Row) (Q : List Row) (n : ℕ) → q .node < n → has (q ∷ Q) n ≡ true → has Q n ≡ true
-later q Q n l h = ⊎-elim (λ e. absurd (omega (arith, eqb-true (q .node) n e))) (λ k. k) (or-cases _ _ h)
-
-has-first : (r : Row) (R : List Row) → has (r ∷ R) (r .node) ≡ true
-has-first r R = or-l _ _ (eq-eqb (r .node) (r .node) refl)
-
-same-lists : (R Q : List Row) → Rising R → Rising Q → ((n : ℕ) → has R n ≡ true → has Q n ≡ true) → ((n : ℕ) → has Q n ≡ true → has R n ≡ true)
-    → ((r q : Row) → List·Memᴰ r R → List·Memᴰ q Q → r .node ≡ q .node → r ≡ q) → R ≡ Q
-same-lists [] [] u v f g h = refl
-same-lists [] (q ∷ Q) u v f g h = absurd (false≢true (g (q .node) (has-first q Q)))
-same-lists (r ∷ R) [] u v f g h = absurd (false≢true (f (r .node) (has-first r R)))
-same-lists (r ∷ R) (q ∷ Q) u v f g h =
-    let e : r .node ≡ q .node = omega (arith, first r R (q .node) u (g (q .node) (has-first q Q)), first q Q (r .node) v (f (r .node) (has-first r R))) in
-    ap₂ _∷_ (h r q (List·Memᴰ·head refl) (List·Memᴰ·head refl) e)
-    (same-lists R Q (rest u) (rest v)
-    (λ n k. later q Q n (omega (arith, behind n u k, e)) (f n (or-r _ _ k)))
-    (λ n k. later r R n (omega (arith, behind n v k, e)) (g n (or-r _ _ k)))
-    (λ x y a b. h x y (List·Memᴰ·tail a) (List·Memᴰ·tail b)))
 
 -- ---- one rank and one branch by the rule
 
@@ -96,7 +66,7 @@ module _ (s : Sheet) (wf : WellFormed s) (p : ℕ) where
         let w = same-choice (r .node) (r .branch) (q .branch) (r .rank) (q .rank) x y′ h in
         ap₂ (λ n b. row n b (r .rank)) e (w .0) ∙ ap (row (q .node) (q .branch)) (w .1)
 
-    module _ (f : Published s p R) (g : Published s p Q) where
+    module _ (f : Ruled s p R) (g : Ruled s p Q) where
       -- by the nodes behind, which have their ranks first
       same-numbers : (n : ℕ) → Reached s n → ((m : ℕ) → n < m → Reached s m → rankOf R m ≡ rankOf Q m) → Same n
       same-numbers n r h b v =
@@ -111,16 +81,17 @@ module _ (s : Sheet) (wf : WellFormed s) (p : ℕ) where
           let z = same-row (x .0) (y .0) (x .2 ∙ sym (y .2)) (x .1) (y .1) (subst (λ m. Same m) (sym (x .2)) e) in
           x .3 ∙ ap (λ (q : Row). q .rank) z ∙ sym (y .3)
 
-      published-one : R ≡ Q
-      published-one =
-          same-lists R Q (f .rising) (g .rising) (λ n h. g .reach n .1 (f .reach n .0 h)) (λ n h. f .reach n .1 (g .reach n .0 h))
+      ruled-one : Rising 0 R → Rising 0 Q → R ≡ Q
+      ruled-one u v =
+          same-lists 0 0 R Q (record { distinct = f .once; rising = u }) (record { distinct = g .once; rising = v })
+          (λ n h. g .reach n .1 (f .reach n .0 h)) (λ n h. f .reach n .1 (g .reach n .0 h))
           λ r q hr hq e.
           let k : Reached s (r .node) = f .reach (r .node) .0 (mem-any (λ x. eqb (x .node) (r .node)) R hr (eq-eqb (r .node) (r .node) refl)) in
           same-row r q e (all-of (f .each) hr) (all-of (g .each) hq) (same-numbers (r .node) k λ m hm hr. same-rank (length (s .nodes)) m (omega arith) hr)
 
-  published-liquid : (R : List Row) → Published s p R → Liquid s p
+  ruled-liquid : (R : List Row) → Ruled s p R → Liquid s p
   unfolding Liquid
-  published-liquid R f n r =
+  ruled-liquid R f n r =
       let x = row-find (Best s p (rankOf R)) R n (f .each) (f .reach n .1 r) in
       subst (Exit s p) (x .2) (serves-exit (x .0 .node) (x .0 .branch) (x .1 .serves))
 
@@ -145,5 +116,32 @@ module _ (s : Sheet) (wf : WellFormed s) (p : ℕ) where
 
       back : Published s p R → make s p ≡ liquid R
       back f =
-          let l = published-liquid R f in
-          published s p wf l .0 ∙ ap liquid (published-one (rows s p) R (rows-published s p wf l) f)
+          let l = ruled-liquid R (f .ruled) in
+          let g = rows-published s p wf l in
+          published s p wf l .0 ∙ ap liquid (ruled-one (rows s p) R (g .ruled) (f .ruled) (g .rising) (f .rising))
+
+  -- ---- in any order, once sorted
+
+  perm-best : {R S : List Row} → List·Permᴰ R S → Distinct R → (r : Row) → Best s p (rankOf R) r → Best s p (rankOf S) r
+  perm-best {R} {S} d h r x =
+      let e : (b : ℕ) → costBy (rankOf R) s (r .node) b ≡ costBy (rankOf S) s (r .node) b =
+      λ b. ap (λ ks. suc (sum ks)) (perm-ranks d h (parts (branchAt s (r .node) b .action))) in
+      record {
+        serves = x .serves;
+        rank = x .rank ∙ e (r .branch);
+        least = λ b v. subst (λ k. r .rank ≤ k) (e b) (x .least b v);
+        lowest = λ b v l. subst (λ k. r .rank < k) (e b) (x .lowest b v l);
+      }
+
+  pub sorted-made : (R : List Row) → Ruled s p R → make s p ≡ liquid (sorted R)
+  sorted-made R f =
+      let d = sorted-keeps R in
+      make-is-published (sorted R) .1 (record {
+        ruled =
+            record {
+              reach = λ n. (λ h. f .reach n .0 (perm-has d n ∙ h), λ r. sym (perm-has d n) ∙ f .reach n .1 r);
+              once = perm-distinct d (f .once);
+              each = perm-all d (all-imp (perm-best d (f .once)) (f .each));
+            };
+        rising = sorted-rises R;
+      })

@@ -2,7 +2,7 @@
 use mathlib.Core.Path.{refl}
 use Rattle.bitml.specs.Lists.{_&_, _or_, _⇒_, ask, nil, cons}
 use Rattle.bitml.specs.Runs.{countsAlways}
-use Rattle.bitml.specs.Rows.{check, repeated, faulty, rowFault}
+use Rattle.bitml.specs.Rows.{check, repeated, falling, faulty, rowFault}
 use Rattle.bitml.specs.Rule.{costOf, cost, better, choose, choices, choiceAt, round, rounds, reached, rowFor, rows, stuck, make}
 use Rattle.bitml.specs.Ledger.{refusal, after, stipulated}
 use Rattle.bitml.specs.Limits.{depositsTaken, within, limitedRefusal, limitedStep, answers, limitedPlay}
@@ -11,7 +11,7 @@ use Rattle.bitml.specs.Stars.{branch, node, halves, row, sheet, T, M, D,
 
 pub stars : Stars
 unfolding Stars cases listed answer madeLines madeRows madeBy padded madeForAll checkedBy liquidBy eventLine eventLines endOf playLines T M D R On Seven sheet node branch halves row make countsAlways rows rowFor stuck reached rounds round
-    choices choose costOf cost better choiceAt check repeated faulty rowFault refusal after stipulated depositsTaken within limitedRefusal limitedStep answers limitedPlay _&_ _or_ _⇒_ ask
+    choices choose costOf cost better choiceAt check repeated falling faulty rowFault refusal after stipulated depositsTaken within limitedRefusal limitedStep answers limitedPlay _&_ _or_ _⇒_ ask
 stars =
     cons refl (cons refl (cons refl (cons refl (cons refl (cons refl (cons refl (cons refl (cons refl (cons refl (cons refl
-    (cons refl (cons refl (cons refl (cons refl (cons refl (cons refl (cons refl (cons refl (cons refl (cons refl (cons refl nil)))))))))))))))))))))
+    (cons refl (cons refl (cons refl (cons refl (cons refl (cons refl (cons refl (cons refl (cons refl (cons refl (cons refl (cons refl (cons refl (cons refl nil))))))))))))))))))))))))

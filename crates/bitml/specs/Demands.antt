@@ -3,12 +3,13 @@ use mathlib.Core.Path.{_≡_}
 use mathlib.Core.Logic.{_↔_, _⊎_}
 use Prim.Native.Nat.{ℕ, suc, _≤_, _<_}
 use mathlib.Core.Bool.{true}
-use mathlib.Core.List.{List, [], _∷_, map}
+use mathlib.Core.List.{List, map, List·Permᴰ}
 use lib.ListN.{length}
 use Rattle.bitml.specs.Lists.{sum, All}
 use Rattle.bitml.specs.Sheet.{Sheet, Cond, holds, branchesAt, branchAt, parts}
 use Rattle.bitml.specs.Runs.{Reached, closed, countsAlways, own, Exit, ExitTree, Liquid}
-use Rattle.bitml.specs.Rows.{Row, has, rankOf, Distinct, Accepted, FaultAt, check}
+use Rattle.bitml.specs.Rows.{Row, has, rankOf, Distinct, InAnyOrder, Rising, Accepted, FaultAt, check}
+use Rattle.bitml.specs.Sorting.{sorted}
 use Rattle.bitml.specs.Rule.{rankAt, reached, rowFor, rows, liquid, frozen, make}
 use Rattle.bitml.specs.Promises.{WellFormed}
 use Rattle.bitml.specs.Liquidity.{Liquidity}
@@ -36,18 +37,16 @@ pub record Best (s : Sheet) (p : ℕ) (k : ℕ → ℕ) (r : Row) : Type 0 where
   pub least : (b : ℕ) → Serves s p (r .node) b → r .rank ≤ costBy k s (r .node) b
   pub lowest : (b : ℕ) → Serves s p (r .node) b → b < r .branch → r .rank < costBy k s (r .node) b
 
--- By rising node number
-pub data Rising : List Row → Type 0 where
-  start : Rising []
-  above : {r : Row} {R : List Row} → All (λ q. r .node < q .node) R → Rising R → Rising (r ∷ R)
-
--- "The published rule: one row for each reached node", its rank and branch by runs, exits and the ranks that the rows give. The order is
--- free, and this one is chosen
-pub record Published (s : Sheet) (p : ℕ) (R : List Row) : Type 0 where
+-- "The published rule: one row for each reached node", its rank and branch by runs, exits and the ranks that the rows give
+pub record Ruled (s : Sheet) (p : ℕ) (R : List Row) : Type 0 where
   pub reach : (n : ℕ) → (has R n ≡ true) ↔ Reached s n
   pub once : Distinct R
-  pub rising : Rising R
   pub each : All (Best s p (rankOf R)) R
+
+-- "`make` now writes rows by rising node number, so its whole output is fixed"
+pub record Published (s : Sheet) (p : ℕ) (R : List Row) : Type 0 where
+  pub ruled : Ruled s p R
+  pub rising : Rising 0 R
 
 pub record Demands : Type 0 where
   -- A condition counts as `t` exactly when it names no secret and is true, whatever the values
@@ -67,6 +66,11 @@ pub record Demands : Type 0 where
   pub check-is-accepted : (s : Sheet) (p : ℕ) (R : List Row) → (check s p R .number ≡ 0) ↔ Accepted s p R
   -- and else the number and the place of the one fault that comes first
   pub check-is-fault : (s : Sheet) (p : ℕ) (R : List Row) (n i : ℕ) → ((0 < n) × (check s p R ≡ record { number = n; place = i })) ↔ FaultAt s p R n i
+  -- Sorting keeps the rows; rows that nothing but their order is against are accepted once sorted; and what the rule gives in any
+  -- order is then what `make` gives
+  pub sorted-keeps : (R : List Row) → List·Permᴰ R (sorted R)
+  pub sorted-accepted : (s : Sheet) (p : ℕ) (R : List Row) → InAnyOrder s p R → Accepted s p (sorted R)
+  pub sorted-made : (s : Sheet) → WellFormed s → (p : ℕ) (R : List Row) → Ruled s p R → make s p ≡ liquid (sorted R)
   -- DEMAND 3, both halves: the claim over every list of events; and on a liquid sheet `make` gives the published rows, which `check` accepts
   pub liquidity : Liquidity
   pub published : (s : Sheet) → WellFormed s → (p : ℕ) → Liquid s p → (make s p ≡ liquid (rows s p)) × (check s p (rows s p) .number ≡ 0)

@@ -3,6 +3,7 @@ pub mod Lists
 pub mod Sheet
 pub mod Runs
 pub mod Rows
+pub mod Sorting
 pub mod Rule
 pub mod Ledger
 pub mod Limits

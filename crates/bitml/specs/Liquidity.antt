@@ -9,7 +9,7 @@ use lib.ListN.{getD}
 use lib.Dec.{eqb}
 use Rattle.bitml.specs.Lists.{sum, every}
 use Rattle.bitml.specs.Sheet.{Sheet, owns}
-use Rattle.bitml.specs.Rows.{Row, rankOf, Accepted}
+use Rattle.bitml.specs.Rows.{Row, rankOf, InAnyOrder}
 use Rattle.bitml.specs.Ledger.{Ledger, Contract, Event, wait, sign, tell, fire, renew, setAt, theBranch, renewedAs, refusal, step, play, stipulated}
 use Rattle.bitml.specs.Promises.{WellFormed}
 
@@ -74,12 +74,12 @@ NumbersAlong s p l [] = Unit {0}
 NumbersAlong s p l (e ∷ es) = NumbersAt s p l e × NumbersAlong s p (step s l e) es
 
 -- ---- DEMAND 3, FIRST HALF, one claim about the whole list of events: wherever they lead from stipulation, taken or refused,
--- whoever made them and whatever the others committed, P alone can empty all contracts, in no more firings than the accepted
--- rows rank the live contracts
+-- whoever made them and whatever the others committed, P alone can empty all contracts, in no more firings than the rows rank
+-- the live contracts: accepted rows, or rows that only their order keeps from being so
 unfoldable pub Liquidity : Type 0
 Liquidity =
     (s : Sheet) → WellFormed s
-    → (p : ℕ) (R : List Row) → Accepted s p R
+    → (p : ℕ) (R : List Row) → InAnyOrder s p R
     → (vs : List (Option ℕ)) → Numbers s p 0 vs
     → (es : List Event) → NumbersAlong s p (stipulated s vs) es
     → Way s p (play s (stipulated s vs) es) NoneLive (liveRank R (play s (stipulated s vs) es .contracts))

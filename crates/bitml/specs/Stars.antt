@@ -73,8 +73,8 @@ unfoldable pub cases : List Case
 cases =
     -- ★1 to ★5
     (making T 0, listed (row 0 1 1 ∷ row 1 0 1 ∷ []) (liquidLine 0 2 1))
-    ∷ (checking T 0 (row 1 0 1 ∷ row 0 0 2 ∷ []), printed (liquidLine 0 2 2 ∷ []) (row 1 0 1 ∷ row 0 0 2 ∷ []))
-    ∷ (checking T 0 (row 1 0 1 ∷ row 0 0 1 ∷ []), refused 13 5 0)
+    ∷ (checking T 0 (row 0 0 2 ∷ row 1 0 1 ∷ []), printed (liquidLine 0 2 2 ∷ []) (row 0 0 2 ∷ row 1 0 1 ∷ []))
+    ∷ (checking T 0 (row 0 0 1 ∷ row 1 0 1 ∷ []), refused 13 4 0)
     ∷ (checking T 1 (row 0 0 2 ∷ row 1 0 1 ∷ []), refused 12 4 0)
     ∷ (checking T 0 (row 0 1 1 ∷ []), refused 11 4 0)
     -- ★6 and ★7
@@ -102,8 +102,11 @@ cases =
       playing T (none ∷ []) (wait 499 ∷ fire 0 1 ∷ wait 1 ∷ fire 0 1 ∷ []),
       printed (takenLine ∷ refusedLine 15 5 0 ∷ takenLine ∷ takenLine ∷ endLine 500 0 (0 ∷ 100 ∷ []) ∷ []) [],
     )
-    -- 10, 11, 14, 16, 17 and 19 as in the table of refusals
+    -- 10, 21, 11, 14, 16, 17 and 19 as in the table of refusals; 21 behind 10 and before 11
     ∷ (checking T 0 (row 0 1 1 ∷ row 0 1 1 ∷ []), refused 10 5 0)
+    ∷ (checking T 0 (row 1 0 1 ∷ row 0 0 2 ∷ []), refused 21 5 0)
+    ∷ (checking T 0 (row 1 0 1 ∷ row 0 0 2 ∷ row 1 0 1 ∷ []), refused 10 6 0)
+    ∷ (checking M 1 (row 4 0 1 ∷ row 3 0 1 ∷ []), refused 21 5 0)
     ∷ (checking T 0 [], refused 11 3 0)
     ∷ (
       playing D [] (fire 9 0 ∷ fire 0 0 ∷ sign 0 0 0 ∷ sign 0 0 0 ∷ sign 1 0 0 ∷ fire 0 0 ∷ []),

@@ -87,7 +87,7 @@ unfolding allPass printTest laidOut sameText copies byte T M D R N W tie printed
     answers.liquidBy answers.madeLines answers.madeRows answers.madeBy answers.padded answers.madeForAll answers.checkedBy answers.eventLine answers.eventLines answers.endOf answers.playLines answers.answer ledger.refusal ledger.after ledger.stipulated limits.depositsTaken limits.within limits.limitedRefusal limits.limitedStep limits.answers limits.limitedPlay values.valueOf values.behind values.valuesOf played-events.eventOf played-events.eventsUpTo played-events.eventsOf
     _&_ _or_ _⇒_ ask
     runs.countsAlways
-    rows.repeated rows.rowFault rows.faulty rows.check
+    rows.repeated rows.falling rows.rowFault rows.faulty rows.check
     rule.costOf rule.cost rule.better rule.choose rule.choices rule.choiceAt rule.round rule.rounds rule.reached rule.rowFor rule.rows rule.stuck rule.make
     text.digits text.decimal text.field text.fields text.line text.lineText text.linesText
 passed cs = allPass printTest cs

@@ -26,12 +26,13 @@ cases =
     -- "The row buffer holds the rows .. and is zero past them"; the length is that of the text
     (T ++ letters "make,0\n", 512, 180224, 0 ∷ 0 ∷ 0 ∷ 33 ∷ 0 ∷ 1 ∷ 1 ∷ 1 ∷ 0 ∷ 1 ∷ 0 ∷ 0 ∷ 0 ∷ [])
     -- "(for `check` as given)"
-    ∷ (T ++ letters "check,0\nrow,1,0,7\nrow,0,0,9\n", 512, 180224, 0 ∷ 0 ∷ 0 ∷ 13 ∷ 1 ∷ 0 ∷ 7 ∷ 0 ∷ 0 ∷ 9 ∷ 0 ∷ 0 ∷ 0 ∷ [])
+    ∷ (T ++ letters "check,0\nrow,0,0,9\nrow,1,0,7\n", 512, 180224, 0 ∷ 0 ∷ 0 ∷ 13 ∷ 0 ∷ 0 ∷ 9 ∷ 1 ∷ 0 ∷ 7 ∷ 0 ∷ 0 ∷ 0 ∷ [])
     -- "it is wholly zero after `play`, `frozen` or a refused request": by reading, by rows
     ∷ (W ++ letters "play\nfire,0,0\n", 512, 180224, 0 ∷ 0 ∷ 0 ∷ 16 ∷ 0 ∷ 0 ∷ 0 ∷ 0 ∷ 0 ∷ 0 ∷ 0 ∷ 0 ∷ 0 ∷ [])
     ∷ (D ++ letters "make,1\n", 512, 180224, 0 ∷ 0 ∷ 0 ∷ 11 ∷ 0 ∷ 0 ∷ 0 ∷ 0 ∷ 0 ∷ 0 ∷ 0 ∷ 0 ∷ 0 ∷ [])
-    ∷ (T ++ letters "check,0\nrow,1,0,1\nrow,0,9,1\n", 512, 180224, 6 ∷ 5 ∷ 3 ∷ 0 ∷ 0 ∷ 0 ∷ 0 ∷ 0 ∷ 0 ∷ 0 ∷ 0 ∷ 0 ∷ 0 ∷ [])
-    ∷ (T ++ letters "check,0\nrow,1,0,1\nrow,0,0,1\n", 512, 180224, 13 ∷ 5 ∷ 0 ∷ 0 ∷ 0 ∷ 0 ∷ 0 ∷ 0 ∷ 0 ∷ 0 ∷ 0 ∷ 0 ∷ 0 ∷ [])
+    ∷ (T ++ letters "check,0\nrow,0,1,1\nrow,1,9,1\n", 512, 180224, 6 ∷ 5 ∷ 3 ∷ 0 ∷ 0 ∷ 0 ∷ 0 ∷ 0 ∷ 0 ∷ 0 ∷ 0 ∷ 0 ∷ 0 ∷ [])
+    ∷ (T ++ letters "check,0\nrow,0,0,1\nrow,1,0,1\n", 512, 180224, 13 ∷ 4 ∷ 0 ∷ 0 ∷ 0 ∷ 0 ∷ 0 ∷ 0 ∷ 0 ∷ 0 ∷ 0 ∷ 0 ∷ 0 ∷ [])
+    ∷ (T ++ letters "check,0\nrow,1,0,1\nrow,0,0,2\n", 512, 180224, 21 ∷ 5 ∷ 0 ∷ 0 ∷ 0 ∷ 0 ∷ 0 ∷ 0 ∷ 0 ∷ 0 ∷ 0 ∷ 0 ∷ 0 ∷ [])
     -- "a lent row buffer under 512", and a text buffer in which not every reply fits
     ∷ (W ++ letters "make,0\n", 511, 180224, 7 ∷ 0 ∷ 0 ∷ 0 ∷ 0 ∷ 0 ∷ 0 ∷ 0 ∷ 0 ∷ 0 ∷ 0 ∷ 0 ∷ 0 ∷ [])
     ∷ (W ++ letters "make,0\n", 512, 180223, 7 ∷ 0 ∷ 0 ∷ 0 ∷ 0 ∷ 0 ∷ 0 ∷ 0 ∷ 0 ∷ 0 ∷ 0 ∷ 0 ∷ 0 ∷ [])

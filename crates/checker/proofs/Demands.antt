@@ -31,7 +31,7 @@ use Rattle.checker.proofs.Entry.{early-none}
 module _ (S : Sheet) (wf : WellFormed S) (p : ℕ) where
   leaves : (R : List Row) → Accepted S p R → Leaves S p R
   unfolding Leaves Liquidity
-  leaves R ok = demands .liquidity S wf p R ok
+  leaves R ok = demands .liquidity S wf p R (ok .asked)
 
   made : MadeRows S p (answer (making S p)) ⊎ MadeFrozen S p (answer (making S p))
   unfolding answer madeLines madeRows madeBy

@@ -1,4 +1,4 @@
--- Every refused request has one reason, and its number is from 1 to 13; every event of a play gets 0 or 14 to 19. Assumes nothing.
+-- Every refused request has one reason, and its number is from 1 to 13 or 21; every event of a play gets 0 or 14 to 19. Assumes nothing.
 use mathlib.Core.Path.{_≡_, refl, sym, ap, _∙_, subst}
 use mathlib.Core.Logic.{_⊎_, inl, inr, ⊎-elim, by-cases}
 use Prim.Native.Nat.{ℕ, _+_, _≤_, _<_}
@@ -13,7 +13,7 @@ use borrow.Author.Tests.{le-leb, lt-leb, ne-eqb, eqb-false}
 use Rattle.bitml.specs.Lists.{_&_}
 use Rattle.bitml.specs.Sheet.{Sheet}
 use Rattle.bitml.specs.Rows as rows
-use Rattle.bitml.specs.Rows.{Row, Wrong, missing, foreign, low, FaultAt, twice, rootless, row}
+use Rattle.bitml.specs.Rows.{Row, Wrong, missing, foreign, low, FaultAt, twice, fall, rootless, row}
 use Rattle.bitml.specs.Ledger.{Event}
 use Rattle.bitml.specs.Answers.{liquidBy, Answer, refused, printed, making, checking, playing, madeBy, madeForAll, checkedBy, answer}
 use Rattle.bitml.proofs.Lists.{and-no, and-false, and-i}
@@ -32,7 +32,7 @@ use Rattle.plays.specs.Events.{eventsOf}
 use Rattle.plays.proofs.Ranges.{events-range}
 use Rattle.checker.specs.Demands.{Room}
 use Rattle.checker.specs.Entry.{placesOfAll, answerForAll, answerFor, judged, answerTo}
-use Rattle.checker.specs.Refusals.{Why, tooLong, shortBuffers, notRead, fewPlaces, rowsRefused, Refused, long, short, misread, few, declined, Placed, OfRefusals}
+use Rattle.checker.specs.Refusals.{Why, tooLong, shortBuffers, notRead, fewPlaces, rowsRefused, Refused, long, short, misread, few, declined, RowsNumber, Placed, OfRefusals}
 use Rattle.checker.proofs.Entry.{early-long, early-rows, early-text, all-few, all-enough}
 use Rattle.checker.proofs.Demands.{answer-room, answer-read, formed}
 
@@ -91,15 +91,16 @@ module _ {s : List ℕ} {places text : ℕ} where
 
 -- ---- the refusals of rows
 
-wrong-number : {S : Sheet} {p : ℕ} {R : List Row} {r : Row} {n : ℕ} → Wrong S p R r n → (10 ≤ n) × (n ≤ 13)
-wrong-number (missing b m h i e) = (omega arith, omega arith)
-wrong-number (foreign h i) = (omega arith, omega arith)
-wrong-number (low h i l) = (omega arith, omega arith)
+wrong-number : {S : Sheet} {p : ℕ} {R : List Row} {r : Row} {n : ℕ} → Wrong S p R r n → RowsNumber n
+wrong-number (missing b m h i e) = inl (omega arith, omega arith)
+wrong-number (foreign h i) = inl (omega arith, omega arith)
+wrong-number (low h i l) = inl (omega arith, omega arith)
 
-fault-number : {S : Sheet} {p : ℕ} {R : List Row} {n i : ℕ} → FaultAt S p R n i → (10 ≤ n) × (n ≤ 13)
-fault-number (twice before after r e h i) = (omega arith, omega arith)
-fault-number (rootless h i) = (omega arith, omega arith)
-fault-number (row before after r n h i e k w) = wrong-number w
+fault-number : {S : Sheet} {p : ℕ} {R : List Row} {n i : ℕ} → FaultAt S p R n i → RowsNumber n
+fault-number (twice before after r e h i) = inl (omega arith, omega arith)
+fault-number (fall before after q r d e u h) = inr refl
+fault-number (rootless d u e) = inl (omega arith, omega arith)
+fault-number (row before after r n d u e q a w) = wrong-number w
 
 fault-answer : (S : Sheet) (p : ℕ) (R : List Row) (n i : ℕ) → FaultAt S p R n i → answer (checking S p R) ≡ refused n (length (S .defs) + 2 + i) 0
 unfolding answer checkedBy
@@ -125,15 +126,15 @@ module _ {s : List ℕ} {places text : ℕ} where
   refused-placed (misread {n = n} {l = l} {f = f} r e) = of-readings s n l f e
   refused-placed (few r e h) = (refl, refl, refl)
   refused-placed (declined {K = K} {p = p} {E = E} {R = R} r e d) =
-      (fault-number d .0, fault-number d .1, omega (arith, formed s K E (check p R) e .some-def), refl)
+      (fault-number d, omega (arith, formed s K E (check p R) e .some-def), refl)
 
-placed-number : (w : Why) (n l f : ℕ) → Placed w n l f → (1 ≤ n) × (n ≤ 13)
+placed-number : (w : Why) (n l f : ℕ) → Placed w n l f → ((1 ≤ n) × (n ≤ 13)) ⊎ (n ≡ 21)
 unfolding Placed ReadNumber
-placed-number tooLong n l f h = (omega (arith, h .0), omega (arith, h .0))
-placed-number shortBuffers n l f h = (omega (arith, h .0), omega (arith, h .0))
-placed-number notRead n l f h = (omega (arith, h .number .0), omega (arith, h .number .1))
-placed-number fewPlaces n l f h = (omega (arith, h .0), omega (arith, h .0))
-placed-number rowsRefused n l f h = (omega (arith, h .0), omega (arith, h .1))
+placed-number tooLong n l f h = inl (omega (arith, h .0), omega (arith, h .0))
+placed-number shortBuffers n l f h = inl (omega (arith, h .0), omega (arith, h .0))
+placed-number notRead n l f h = inl (omega (arith, h .number .0), omega (arith, h .number .1))
+placed-number fewPlaces n l f h = inl (omega (arith, h .0), omega (arith, h .0))
+placed-number rowsRefused n l f h = ⊎-elim (λ k. inl (omega (arith, k .0), k .1)) (λ k. inr k) (h .0)
 
 -- ---- what each last part is answered
 

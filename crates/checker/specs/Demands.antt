@@ -35,7 +35,7 @@ pub record MadeRows (S : Sheet) (p : ℕ) (a : Answer) : Type 0 where
   pub answer : a ≡ printed (map rowLine (rows S p) ++ (liquidBy S p (rows S p) ∷ [])) (rows S p)
   -- "A sheet is liquid for P if every reached node has an exit"
   pub liquid : Liquid S p
-  -- "The published rule: one row for each reached node; rank is the least .., branch the lowest with that rank"
+  -- "The published rule: one row for each reached node; rank is the least .., branch the lowest with that rank", "by rising node number"
   pub published : Published S p (rows S p)
   -- Demand 3, second half: the published rows are accepted; and so its first half holds for them
   pub accepted : Accepted S p (rows S p)
@@ -54,7 +54,7 @@ pub record MadeFrozen (S : Sheet) (p : ℕ) (a : Answer) : Type 0 where
 pub record RowsTaken (S : Sheet) (p : ℕ) (R : List Row) (a : Answer) : Type 0 where
   -- "`check` prints the `liquid` line", and "The row buffer holds the rows (for `check` as given)"
   pub answer : a ≡ printed (liquidBy S p R ∷ []) R
-  -- "They are accepted if these hold"
+  -- "They are accepted if these hold", in node order
   pub accepted : Accepted S p R
   pub leaves : Leaves S p R
 
@@ -63,7 +63,7 @@ pub record RowsRefused (S : Sheet) (p : ℕ) (R : List Row) (a : Answer) : Type 
   pub place : ℕ
   -- "or a refusal", at the line of its row: the line of `check`, at place 0, is the one behind the `def` lines. "field 0 from 10 up"
   pub answer : a ≡ refused number (length (S .defs) + 2 + place) 0
-  -- "Rows: 10 .., 11 .., then row by row 11, 12, 13"
+  -- "Rows: 10 .., 11 .., then row by row 11, 12, 13", and 21 "after 10 and before 11"
   pub fault : FaultAt S p R number place
   -- "and in no other case"
   pub unaccepted : Accepted S p R → ⊥

@@ -34,9 +34,13 @@ pub data Refused (s : List ℕ) (places text : ℕ) : Why → ℕ → ℕ → �
   misread : {n l f : ℕ} → Room s places text → readRequest s ≡ unread n l f → Refused s places text notRead n l f
   -- `makeall`: "Fewer places get 7 at line 0, field 0, looked at after reading has found nothing bad"
   few : {K : ℕ} {E : Entries} → Room s places text → readRequest s ≡ request K E makeAll → places < placesOfAll → Refused s places text fewPlaces 7 0 0
-  -- "Rows: 10 .., 11 .., then row by row 11, 12, 13": the fault that comes first, at the line of its row
+  -- "Rows: 10 .., 11 .., then row by row 11, 12, 13", and 21 "after 10 and before 11": the fault that comes first, at the line of its row
   declined : {K p n i : ℕ} {E : Entries} {R : List Row} → Room s places text → readRequest s ≡ request K E (check p R)
       → FaultAt (sheetOf K E) p R n i → Refused s places text rowsRefused n (length (sheetOf K E .defs) + 2 + i) 0
+
+-- 10 to 13 and 21 refuse rows
+abbrev pub RowsNumber : ℕ → Type 0
+RowsNumber n = ((10 ≤ n) × (n ≤ 13)) ⊎ (n ≡ 21)
 
 -- "(from 1; field 0 from 10 up)": which numbers and places a reason can have. `check` stands on line 3 or later
 unfoldable pub Placed : Why → ℕ → ℕ → ℕ → Type 0
@@ -44,15 +48,15 @@ Placed tooLong n l f = (n ≡ 1) × (l ≡ 0) × (f ≡ 0)
 Placed shortBuffers n l f = (n ≡ 7) × (l ≡ 0) × (f ≡ 0)
 Placed notRead n l f = WhileReading n l f
 Placed fewPlaces n l f = (n ≡ 7) × (l ≡ 0) × (f ≡ 0)
-Placed rowsRefused n l f = (10 ≤ n) × (n ≤ 13) × (3 ≤ l) × (f ≡ 0)
+Placed rowsRefused n l f = RowsNumber n × (3 ≤ l) × (f ≡ 0)
 
 pub record OfRefusals : Type 0 where
   -- A request is refused by a number at a place exactly where one of these reasons says so, and never two do
   pub why : (s : List ℕ) (places text n l f : ℕ) → (answerTo s places text ≡ refused n l f) ↔ ((w : Why) × Refused s places text w n l f)
   pub alone : (s : List ℕ) (places text : ℕ) {w v : Why} {n l f m k g : ℕ} → Refused s places text w n l f → Refused s places text v m k g → w ≡ v
-  -- within its numbers and places, and so by a number from 1 to 13
+  -- within its numbers and places, and so by a number from 1 to 13 or by 21
   pub ranges : (s : List ℕ) (places text : ℕ) {w : Why} {n l f : ℕ} → Refused s places text w n l f → Placed w n l f
-  pub number : (s : List ℕ) (places text n l f : ℕ) → answerTo s places text ≡ refused n l f → (1 ≤ n) × (n ≤ 13)
+  pub number : (s : List ℕ) (places text n l f : ℕ) → answerTo s places text ≡ refused n l f → ((1 ≤ n) × (n ≤ 13)) ⊎ (n ≡ 21)
   -- "play goes on": each event of a play is taken (0), or refused by 14 to 19
   pub events : (s : List ℕ) (K v e : ℕ) (E : Entries) → readRequest s ≡ request K E (play v e)
       → All EventNumber (answers (sheetOf K E) (stipulated (sheetOf K E) (valuesOf s v (defEntryAt E 0 .secrets))) (eventsOf s K e))

@@ -14,7 +14,7 @@ unfolding Liquidity
 of-sheet s wf p =
     record {
       verdict = demands .verdict s wf p;
-      leave = λ R ok. demands .liquidity s wf p R (demands .check-is-accepted s p R .0 ok);
+      leave = λ R ok. demands .liquidity s wf p R (demands .check-is-accepted s p R .0 ok .asked);
       published = demands .published s wf p;
     }
 

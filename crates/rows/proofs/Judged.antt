@@ -11,7 +11,7 @@ use Rattle.bitml.specs.Lists.{_&_, ask, sum, every}
 use Rattle.bitml.specs.Sheet.{Sheet, branchesAt, branchAt, hasBranch, parts, defAt}
 use Rattle.bitml.specs.Runs.{own, next}
 use Rattle.bitml.specs.Rows as bitml
-use Rattle.bitml.specs.Rows.{Row, has, rankOf, repeated, rowFault, faulty, check, orElse}
+use Rattle.bitml.specs.Rows.{Row, has, rankOf, rowFault, faulty, check, orElse}
 use Rattle.bitml.proofs.Lists.{and-true, and-end, map-cong}
 use Rattle.tables.specs.Entries.{Entries, held, people}
 use Rattle.tables.specs.SheetOf.{branchEntryAt, defEntryAt, branchNumbers, branchNumber, branchCount, partNumbers, actionOf, branchOf, sheetOf, sheetIn}
@@ -20,9 +20,10 @@ use Rattle.reader.specs.Promises.{Promises}
 use Rattle.reader.proofs.Formed.{parts-are-nodes}
 use Rattle.requests.specs.Rows.{rowIn, rowsOf}
 use Rattle.sheets.specs.Ready.{Ready}
-use Rattle.rows.specs.Given.{RowsFit, Known, hasBy, nextBy, rankSum, faultBy, twiceAt, answerOf}
+use Rattle.rows.specs.Given.{RowsFit, Known, hasBy, nextBy, rankSum, faultBy, orderFault, answerOf}
 use Rattle.rows.specs.declared.Checked.the-variants.{Liquid, Refused}
 use Rattle.rows.proofs.Ranks.{drop-one, rows-from, rows-end, row-branch, known-has}
+use Rattle.rows.proofs.Order.{order-then}
 
 -- ---- loops
 
@@ -149,21 +150,22 @@ faults-end s p u i n h = ap (faulty s p (rowsOf n u) (i + 1)) (rows-end u n i h)
 
 -- ---- the whole check
 
-pub check-twice : (s : Sheet) (p : ℕ) (R : List Row) (k : ℕ) → repeated 1 [] R ≡ twiceAt k → (k ≡ 0 → ⊥) → record { number = 10; place = k } ≡ check s p R
-unfolding check twiceAt
-check-twice s p R k e f = rw (e, ne-eqb k 0 f)
+-- 10 and 21
+pub check-order : (s : Sheet) (p : ℕ) (R : List Row) (f : bitml.Fault) → f ≡ orderFault R → (f .number ≡ 0 → ⊥) → f ≡ check s p R
+unfolding check
+check-order s p R f e z = sym (order-then R _ ∙ rw (← e, ne-eqb (f .number) 0 z))
 
-module _ (K : ℕ) (E : Entries) (p : ℕ) (ok : Promises K E) (R : List Row) (A : List ℕ) (kn : Known R A) (e : repeated 1 [] R ≡ twiceAt 0) where
+module _ (K : ℕ) (E : Entries) (p : ℕ) (ok : Promises K E) (R : List Row) (A : List ℕ) (kn : Known R A) (e : orderFault R .number ≡ 0) where
   root-has : has R (defAt (sheetOf K E) 0 .root) ≡ hasBy A (defEntryAt E 0 .root)
   root-has = ap (has R) (root-is K E 0 (omega (arith, ok .limits .defs .0))) ∙ known-has R A kn (defEntryAt E 0 .root)
 
   pub check-root : getD A (defEntryAt E 0 .root) 0 ≡ 0 → record { number = 11; place = 0 } ≡ check (sheetOf K E) p R
-  unfolding check twiceAt ask
-  check-root f = rw (e, root-has ∙ has-no A (defEntryAt E 0 .root) f)
+  unfolding check ask
+  check-root f = sym (order-then R _ ∙ rw (e, root-has ∙ has-no A (defEntryAt E 0 .root) f))
 
   pub check-rest : (getD A (defEntryAt E 0 .root) 0 ≡ 0 → ⊥) → faulty (sheetOf K E) p R 1 R ≡ check (sheetOf K E) p R
-  unfolding check twiceAt ask
-  check-rest f = rw (e, root-has ∙ has-yes A (defEntryAt E 0 .root) f)
+  unfolding check ask
+  check-rest f = sym (order-then R _ ∙ rw (e, root-has ∙ has-yes A (defEntryAt E 0 .root) f))
 
 module _ (R : List Row) (f : bitml.Fault) where
   pub answer-refused : (f .number ≡ 0 → ⊥) → Refused (f .number) (f .place) ≡ answerOf R f

@@ -1,3 +1,4 @@
 pub mod Ranks
+pub mod Order
 pub mod Judged
 pub mod Buffer

@@ -12,14 +12,14 @@ use Rattle.bitml.specs.Lists.{_or_, All, nil, cons}
 use Rattle.bitml.specs.Rows.{Row, has, rankOf, repeated}
 use Rattle.bitml.proofs.Lists.{or-no-l, or-no-r, all-head, all-tail, all-append}
 use Rattle.bitml.proofs.Counting.{at-store}
-use Rattle.tables.specs.Entries.{firstOf, held}
+use Rattle.tables.specs.Entries.{held}
 use Rattle.tables.specs.SheetOf.{branchCount}
 use Rattle.tables.proofs.Laws.{firstOf-getD}
 use Rattle.tables.proofs.Held.{node-held}
 use Rattle.requests.specs.Rows.{rowIn, rowsOf, row, mostRank}
 use Rattle.requests.proofs.Laws.{rows-none, rows-next, rows-length}
 use Rattle.sheets.specs.Ready.{Ready}
-use Rattle.rows.specs.Given.{RowsFit, RowsSmall, Known, hasBy, twiceAt}
+use Rattle.rows.specs.Given.{RowsFit, RowsSmall, Known, hasBy}
 
 -- ---- a list from an index on
 
@@ -108,9 +108,9 @@ module _ (u A : List ℕ) (i n : ℕ) (ok : RowsSmall u n) (kn : Known (rowsOf i
       ap (repeated (i + 1) (rowsOf i u)) (rows-from u n i h)
       ∙ ap₂ (λ b k. cond b (record { number = 10; place = i + 1 }) (repeated k (rowIn u i ∷ rowsOf i u) (drop (i + 1) (rowsOf n u)))) (known-has (rowsOf i u) A kn (rowIn u i .node)) v
 
-  pub twice-hit : (getD A (rowIn u i .node) 0 ≡ 0 → ⊥) → repeated (i + 1) (rowsOf i u) (drop i (rowsOf n u)) ≡ twiceAt (i + 1)
-  unfolding twiceAt hasBy
-  twice-hit f = turn ∙ rw (ne-eqb (getD A (rowIn u i .node) 0) 0 f, ne-eqb (i + 1) 0 (λ e. omega arith))
+  pub twice-hit : (getD A (rowIn u i .node) 0 ≡ 0 → ⊥) → repeated (i + 1) (rowsOf i u) (drop i (rowsOf n u)) ≡ record { number = 10; place = i + 1 }
+  unfolding hasBy
+  twice-hit f = turn ∙ rw (ne-eqb (getD A (rowIn u i .node) 0) 0 f)
 
   module _ (e : getD A (rowIn u i .node) 0 ≡ 0) where
     fresh : has (rowsOf i u) (rowIn u i .node) ≡ false
@@ -140,8 +140,8 @@ module _ (u A : List ℕ) (i n : ℕ) (ok : RowsSmall u n) (kn : Known (rowsOf i
         turn ∙ rw e (repeated-same (i + 1 + 1) (rowIn u i ∷ rowsOf i u) (rowsOf (i + 1) u) (drop (i + 1) (rowsOf n u))
         (λ m. rw (rows-next u i) (has-rank (rowIn u i ∷ rowsOf i u) (cons (ok .some i h) (kn .some)) m ∙ sym (has-rank R (all-append (kn .some) (cons (ok .some i h) nil)) m ∙ ap (λ k. not (eqb k 0)) (rank-next (rowsOf i u) (rowIn u i) m fresh)))))
 
-pub twice-end : (u : List ℕ) (i n : ℕ) → n ≤ i → repeated (i + 1) (rowsOf i u) (drop i (rowsOf n u)) ≡ twiceAt 0
-unfolding repeated twiceAt
+pub twice-end : (u : List ℕ) (i n : ℕ) → n ≤ i → repeated (i + 1) (rowsOf i u) (drop i (rowsOf n u)) ≡ record { number = 0; place = 0 }
+unfolding repeated
 twice-end u i n h = ap (repeated (i + 1) (rowsOf i u)) (rows-end u n i h)
 
 pub twice-start : (u : List ℕ) (n : ℕ) → repeated (0 + 1) (rowsOf 0 u) (drop 0 (rowsOf n u)) ≡ repeated 1 [] (rowsOf n u)

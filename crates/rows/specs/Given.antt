@@ -8,7 +8,7 @@ use lib.Dec.{leb, eqb}
 use Rattle.bitml.specs.Lists.{ask, sum, every, All}
 use Rattle.bitml.specs.Runs.{own, next}
 use Rattle.bitml.specs.Rows as bitml
-use Rattle.bitml.specs.Rows.{Row, rankOf}
+use Rattle.bitml.specs.Rows.{Row, rankOf, orElse, repeated, falling}
 use Rattle.tables.specs.Entries.{Entries, held}
 use Rattle.tables.specs.SheetOf.{sheetOf, branchOf, branchNumber, branchNumbers, partNumbers}
 use Rattle.requests.specs.Rows.{RowFits, countIn, rowIn, mostRank, mostRows}
@@ -64,9 +64,13 @@ faultBy K E p A r =
 abbrev pub asFault : Fault → bitml.Fault
 asFault f = record { number = f .number; place = f .place }
 
--- "10 over all rows", by the place of the row; 0 for no such row
-unfoldable pub twiceAt : ℕ → bitml.Fault
-twiceAt k = record { number = cond (eqb k 0) 0 10; place = k }
+-- "21 when a row's node is below that of the row before it": the row in place i
+abbrev pub fallAt : ℕ → bitml.Fault
+fallAt i = record { number = 21; place = i }
+
+-- 10 over all rows, then 21 over all rows
+unfoldable pub orderFault : List Row → bitml.Fault
+orderFault R = orElse (repeated 1 [] R) (falling 1 0 R)
 
 -- "`check` prints the `liquid` line or a refusal"; "`liquid` has participant, rows, rank of node 0"
 unfoldable pub answerOf : List Row → bitml.Fault → Checked

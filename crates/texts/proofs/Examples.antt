@@ -13,7 +13,7 @@ Printed c = linesText (c .0) ≡ c .1
 abbrev cases : List ((List Line) × (List ℕ))
 cases =
     ((rowLine (record { node = 0; branch = 1; rank = 1 }) ∷ rowLine (record { node = 1; branch = 0; rank = 1 }) ∷ liquidLine 0 2 1 ∷ []), letters "row,0,1,1\nrow,1,0,1\nliquid,0,2,1\n")
-    ∷ ((refusedLine 13 5 0 ∷ []), letters "refused,13,5,0\n")
+    ∷ ((refusedLine 13 4 0 ∷ []), letters "refused,13,4,0\n")
     ∷ ((frozenLine 0 1 ∷ []), letters "frozen,0,1\n")
     ∷ ((takenLine ∷ refusedLine 15 5 0 ∷ takenLine ∷ takenLine ∷ endLine 500 0 (0 ∷ 100 ∷ []) ∷ []), letters "taken\nrefused,15,5,0\ntaken\ntaken\nend,500,0,0,100\n")
     ∷ ((endLine 4_294_967_295 256 (2_100_000_000_000_000 ∷ []) ∷ []), letters "end,4294967295,256,2100000000000000\n")

@@ -1,26 +1,26 @@
 -- The text and the rows of a verdict are those of the definition. Assumes nothing.
 use mathlib.Core.Path.{_≡_, refl, sym, ap, ap₂, _∙_, subst}
-use Prim.Native.Nat.{ℕ, suc, _+_, _-_, _*_, _≤_, _<_}
+use Prim.Native.Nat.{ℕ, _+_, _-_, _*_, _≤_, _<_}
 use native.Mathlib.Omega.{arith}
 use mathlib.Core.Bool.{Bool, true, false, cond}
 use mathlib.Core.List.{List, [], _∷_, _++_, map}
-use lib.ListN.{length, replicate, length-map}
+use lib.ListN.{length, replicate, length-map, length-append}
 use lib.Dec.{eqb, ltb}
-use borrow.Author.Tests.{lt-ltb}
-use Rattle.bitml.specs.Lists.{ask, keep, below, All, nil}
+use borrow.Author.Tests.{eqb-false, lt-ltb}
+use Rattle.bitml.specs.Lists.{keep, below, All, nil}
 use Rattle.bitml.specs.Sheet.{Sheet, defAt, noNode, branchesAt}
-use Rattle.bitml.specs.Rows.{Row, Fault, has, rankOf, orElse, repeated, rowFault, faulty, check}
+use Rattle.bitml.specs.Rows.{Row, Fault, rankOf, FaultAt, twice, fall, rootless, row, check}
 use Rattle.bitml.specs.Rule.{Verdict, liquid, frozen, verdict, stuck, rows, rowFor, rankAt, reached, make}
 use Rattle.bitml.specs.Demands.{Best}
 use Rattle.bitml.proofs.Demands.{demands}
-use Rattle.bitml.proofs.Lists.{length-up, all-map, all-mem, all-both, in-range}
+use Rattle.bitml.proofs.Lists.{length-up, all-map, all-mem, all-imp, all-both, in-range}
 use Rattle.bitml.specs.Answers.{rowLine, liquidLine, frozenLine, refused, printed, liquidBy, making, madeLines, madeRows, madeBy, checkedBy, answer}
 use Rattle.tables.specs.Entries.{Entries, held, people}
-use Rattle.tables.specs.SheetOf.{sheetOf, sheetIn}
+use Rattle.tables.specs.SheetOf.{nodeEntryAt, branchCount, sheetOf, sheetIn}
 use Rattle.tables.proofs.SheetOf.{keep-le, root-is, nodes-are, count-of}
 use Rattle.reader.specs.Promises.{Promises}
 use Rattle.reader.proofs.Formed.{well-formed, ranks-small}
-use Rattle.requests.specs.Rows.{rowsOf}
+use Rattle.requests.specs.Rows.{RowFits, rowsOf}
 use Rattle.sheets.specs.Ready.{Ready}
 use Rattle.exits.specs.Made.{filled, answerOf, bufferOf}
 use Rattle.exits.specs.declared.Verdict.the-variants.{Liquid, Frozen}
@@ -151,31 +151,45 @@ made-count t ok p count rank l = omega (arith, counted (make (sheetIn t) p) l, m
     counted (liquid R) l = cc
     counted (frozen x) l = let q : _≡_ {A = ℕ} 0 1 = cc in absurd (omega arith)
 
--- a published row has numbers of three digits at the most
+-- a published row is one that can be read, and has numbers of three digits at the most
+module _ (K : ℕ) (E : Entries) (ok : Promises K E) (p : ℕ) where
+  abbrev Printed : Row → Type 0
+  Printed r = RowFits (λ n. nodeEntryAt E n .count) (length (E .nodes)) r × Short r
+
+  best-printed : (R : List Row) (r : Row) → Best (sheetOf K E) p (rankOf R) r → r .rank ≡ rankAt (sheetOf K E) p (r .node) → Printed r
+  best-printed R r b e =
+      let S = sheetOf K E in
+      let there = b .serves .there in
+      let some : 0 < length (branchesAt S (r .node)) = omega arith in
+      let inside : r .node < length (S .nodes) = in-range (λ nd. ltb 0 (length (nd .branches))) (S .nodes) (r .node) noNode refl (lt-ltb 0 _ some) in
+      let n : r .node < length (E .nodes) = omega (arith, nodes-are K E) in
+      let node = ok .node (r .node) n in
+      let few = ok .limits .nodes in
+      let rank : r .rank ≤ length (E .nodes) = omega (arith, e, ranks-small K E ok p (r .node)) in
+      let branch : r .branch < branchCount E (r .node) = omega (arith, there, count-of K E (r .node) n) in (
+        record { has-node = n; has-branch = omega (arith, node .count); has-rank = omega (arith, b .rank); rank-most = omega arith },
+        (omega arith, omega (arith, node .few), omega arith),
+      )
+
+  rows-ranked : All (λ r. r .rank ≡ rankAt (sheetOf K E) p (r .node)) (rows (sheetOf K E) p)
+  unfolding rows rowFor
+  rows-ranked =
+      let S = sheetOf K E in
+      let ns = keep (reached S) (below (length (S .nodes))) in
+      all-map (rowFor S p) (all-mem (λ n. rowFor S p n .rank ≡ rankAt S p (rowFor S p n .node)) ns λ n h. refl)
+
+  pub made-printed : All Printed (madeRows (make (sheetOf K E) p))
+  made-printed =
+      let S = sheetOf K E in
+      made-rows (All Printed) S p nil λ e.
+      all-both (best-printed (rows S p)) (demands .make-is-published S (well-formed K E ok) p (rows S p) .0 e .ruled .each) rows-ranked
+
 module _ (t : List ℕ) (ok : Ready t) (p : ℕ) where
   abbrev S : Sheet
   S = sheetIn t
 
-  best-short : (R : List Row) (r : Row) → Best S p (rankOf R) r → r .rank ≡ rankAt S p (r .node) → Short r
-  best-short R r b e =
-      let there = b .serves .there in
-      let some : 0 < length (branchesAt S (r .node)) = omega arith in
-      let inside : r .node < length (S .nodes) = in-range (λ nd. ltb 0 (length (nd .branches))) (S .nodes) (r .node) noNode refl (lt-ltb 0 _ some) in
-      let n : r .node < length (held t .nodes) = omega (arith, nodes-are (people t) (held t)) in (
-        omega (arith, ok .promises .limits .nodes),
-        omega (arith, there, count-of (people t) (held t) (r .node) n, ok .promises .node (r .node) n .few),
-        omega (arith, e, ranks-small (people t) (held t) (ok .promises) p (r .node), ok .promises .limits .nodes),
-      )
-
-  rows-ranked : All (λ r. r .rank ≡ rankAt S p (r .node)) (rows S p)
-  unfolding rows rowFor
-  rows-ranked =
-      let ns = keep (reached S) (below (length (S .nodes))) in
-      all-map (rowFor S p) (all-mem (λ n. rowFor S p n .rank ≡ rankAt S p (rowFor S p n .node)) ns λ n h. refl)
-
   pub made-short : All Short (madeRows (make S p))
-  made-short = made-rows (All Short) S p nil λ e.
-      all-both (best-short (rows S p)) (demands .make-is-published S (well-formed (people t) (held t) (ok .promises)) p (rows S p) .0 e .each) rows-ranked
+  made-short = all-imp (λ r h. h .1) (made-printed (people t) (held t) (ok .promises) p)
 
   -- the rows that stand in the buffer, as they are printed
   pub rows-room : (n : ℕ) (u : List ℕ) (count rank : ℕ) → 1536 ≤ n → Liquid count rank ≡ answerOf (make S p) → u ≡ bufferOf n (make S p)
@@ -193,42 +207,26 @@ module _ (t : List ℕ) (ok : Ready t) (p : ℕ) where
 
 -- ---- where a fault is
 
-or-else-place : (f g : Fault) (k : ℕ) → f .place ≤ k → g .place ≤ k → orElse f g .place ≤ k
-or-else-place f g k a b = go (eqb (f .number) 0)
-  where
-    go : (x : Bool) → (cond x g f) .place ≤ k
-    go true = b
-    go false = a
+fault-place : {s : Sheet} {p : ℕ} {R : List Row} {n i : ℕ} → FaultAt s p R n i → i ≤ length R
+fault-place (twice before after r e d h) = omega (arith, ap (λ R. length R) e, length-append before (r ∷ after))
+fault-place (fall before after q r d e u h) = omega (arith, ap (λ R. length R) e, length-append before (q ∷ r ∷ after))
+fault-place (rootless d u e) = omega arith
+fault-place (row before after r n d u e q a w) = omega (arith, ap (λ R. length R) q, length-append before (r ∷ after))
 
-repeated-place : (i : ℕ) (S R : List Row) → repeated i S R .place ≤ i + length R
-unfolding repeated
-repeated-place i S [] = omega arith
-repeated-place i S (r ∷ R) = go (has S (r .node)) (repeated-place (suc i) (r ∷ S) R)
-  where
-    go : (x : Bool) → repeated (suc i) (r ∷ S) R .place ≤ suc i + length R
-        → (cond x (record { number = 10; place = i }) (repeated (suc i) (r ∷ S) R)) .place ≤ i + suc (length R)
-    go true h = omega arith
-    go false h = omega arith
-
-faulty-place : (s : Sheet) (p : ℕ) (Q : List Row) (i : ℕ) (R : List Row) → faulty s p Q i R .place ≤ i + length R
-unfolding faulty
-faulty-place s p Q i [] = omega arith
-faulty-place s p Q i (r ∷ R) =
-    or-else-place (record { number = rowFault s p Q r; place = i }) (faulty s p Q (suc i) R) (i + suc (length R)) (omega arith) (let h = faulty-place s p Q (suc i) R in omega arith)
-
-check-place : (s : Sheet) (p : ℕ) (R : List Row) → check s p R .place ≤ 1 + length R
-unfolding check
-check-place s p R =
-    or-else-place (repeated 1 [] R) _ (1 + length R) (repeated-place 1 [] R)
-    (or-else-place (record { number = ask (has R (defAt s 0 .root)) 11 0; place = 0 }) (faulty s p R 1 R) (1 + length R) (omega arith) (faulty-place s p R 1 R))
-
-refused-place : (R : List Row) (f : Fault) (number place : ℕ) → checked.Refused number place ≡ answerOfRows R f → place ≡ f .place
+refused-by : (R : List Row) (f : Fault) (number place : ℕ) → checked.Refused number place ≡ answerOfRows R f → (0 < f .number) × (place ≡ f .place)
 unfolding answerOfRows
-refused-place R f number place l = go (eqb (f .number) 0) l
+refused-by R f number place l = go (eqb (f .number) 0) refl l
   where
-    go : (x : Bool) → checked.Refused number place ≡ cond x (checked.Liquid (length R) (rankOf R 0)) (checked.Refused (f .number) (f .place)) → place ≡ f .place
-    go true l = let q : _≡_ {A = ℕ} 0 1 = cc in absurd (omega arith)
-    go false l = cc
+    go : (x : Bool) → eqb (f .number) 0 ≡ x → checked.Refused number place ≡ cond x (checked.Liquid (length R) (rankOf R 0)) (checked.Refused (f .number) (f .place))
+        → (0 < f .number) × (place ≡ f .place)
+    go true e l = let q : _≡_ {A = ℕ} 0 1 = cc in absurd (omega arith)
+    go false e l = (some (eqb-false _ _ e), cc)
+      where
+        some : (f .number ≡ 0 → ⊥) → 0 < f .number
+        some ne = omega (arith, ne)
 
-pub place-few : (s : Sheet) (p : ℕ) (R : List Row) (number place : ℕ) → checked.Refused number place ≡ answerOfRows R (check s p R) → place ≤ 1 + length R
-place-few s p R number place l = let e = refused-place R (check s p R) number place l in omega (arith, check-place s p R)
+pub place-few : (s : Sheet) (p : ℕ) (R : List Row) (number place : ℕ) → checked.Refused number place ≡ answerOfRows R (check s p R) → place ≤ length R
+place-few s p R number place l =
+    let f = check s p R in
+    let w = refused-by R f number place l in
+    omega (arith, w .1, fault-place (demands .check-is-fault s p R (f .number) (f .place) .0 (w .0, refl)))

@@ -11,3 +11,4 @@ pub mod Same
 pub mod Printed
 pub mod Claims
 pub mod Numbers
+pub mod Requests

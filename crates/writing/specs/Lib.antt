@@ -1,3 +1,4 @@
 pub mod Written
 pub mod Writable
+pub mod Requests
 pub mod Back

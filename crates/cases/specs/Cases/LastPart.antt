@@ -26,7 +26,7 @@ cases =
     ∷ (D ++ letters "check,2\n", letters "refused,6,3,2\n")
     ∷ (W ++ letters "check,x\n", letters "refused,3,3,2\n")
     -- "`row`,node": the last node, and one past the last
-    ∷ (T ++ letters "check,0\nrow,1,0,1\nrow,0,1,1\n", letters "liquid,0,2,1\n")
+    ∷ (T ++ letters "check,0\nrow,0,1,2\nrow,1,0,1\n", letters "liquid,0,2,2\n")
     ∷ (T ++ letters "check,0\nrow,2,0,1\n", letters "refused,6,4,2\n")
     ∷ (W ++ letters "check,0\nrow,1,0,1\n", letters "refused,6,4,2\n")
     ∷ (W ++ letters "check,0\nrow,9999999999999999999,0,1\n", letters "refused,6,4,2\n")

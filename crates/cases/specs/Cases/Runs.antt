@@ -63,6 +63,15 @@ cases =
     ∷ (letters "bitml,1,2\ndef,1,0,c,1,0,0,w,0\ndef,1,0,c,2,0,0,w,0,0,0,g,1\nmake,0\n", letters "row,0,0,1\nliquid,0,1,1\n")
     ∷ (letters "bitml,1,2\ndef,1,0,c,1,0,0,w,0\ndef,1,0,c,0\nmake,0\n", letters "row,0,0,1\nliquid,0,1,1\n")
     ∷ (letters "bitml,1,3\ndef,1,0,c,2,0,0,w,0,0,0,g,2\ndef,1,0,c,0\ndef,1,0,c,1,0,0,w,0\nmake,0\n", letters "row,0,0,1\nrow,2,0,1\nliquid,0,2,1\n")
+    -- `make` "writes rows by rising node number", not as a run comes to their nodes
+    ∷ (
+      letters "bitml,2,1\ndef,1,1,0,c,1,0,0,s,2,1,c,1,0,0,s,1,1,c,1,0,500,w,0,1,c,1,0,500,w,1\nmake,1\n",
+      letters "row,0,0,4\nrow,1,0,2\nrow,2,0,1\nrow,3,0,1\nliquid,1,4,4\n",
+    )
+    ∷ (
+      letters "bitml,1,3\ndef,1,0,c,2,0,0,w,0,0,0,g,2\ndef,1,0,c,1,0,0,w,0\ndef,1,0,c,2,0,0,w,0,0,0,g,1\nmake,0\n",
+      letters "row,0,0,1\nrow,1,0,1\nrow,2,0,1\nliquid,0,3,1\n",
+    )
     -- `frozen` names the lowest of the reached nodes that have no exit
     ∷ (letters "bitml,1,3\ndef,1,0,c,2,0,0,w,0,0,0,g,2\ndef,1,0,c,0\ndef,1,0,c,0\nmake,0\n", letters "frozen,0,2\n")
     ∷ (letters "bitml,1,1\ndef,1,0,c,2,0,0,w,0,0,0,s,3,1,c,1,0,0,w,0,1,c,0,1,c,0\nmake,0\n", letters "frozen,0,2\n")

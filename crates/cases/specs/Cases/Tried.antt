@@ -7,8 +7,8 @@ unfoldable pub cases : List Case
 cases =
     -- ★1 to ★5
     (T ++ letters "make,0\n", letters "row,0,1,1\nrow,1,0,1\nliquid,0,2,1\n")
-    ∷ (T ++ letters "check,0\nrow,1,0,1\nrow,0,0,2\n", letters "liquid,0,2,2\n")
-    ∷ (T ++ letters "check,0\nrow,1,0,1\nrow,0,0,1\n", letters "refused,13,5,0\n")
+    ∷ (T ++ letters "check,0\nrow,0,0,2\nrow,1,0,1\n", letters "liquid,0,2,2\n")
+    ∷ (T ++ letters "check,0\nrow,0,0,1\nrow,1,0,1\n", letters "refused,13,4,0\n")
     ∷ (T ++ letters "check,1\nrow,0,0,2\nrow,1,0,1\n", letters "refused,12,4,0\n")
     ∷ (T ++ letters "check,0\nrow,0,1,1\n", letters "refused,11,4,0\n")
     -- ★6 and ★7

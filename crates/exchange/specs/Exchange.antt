@@ -5,6 +5,8 @@ use mathlib.Core.List.{List, _++_, map}
 use lib.ListN.{length}
 use Rattle.bitml.specs.Sheet.{Sheet}
 use Rattle.bitml.specs.Runs.{Liquid}
+use Rattle.bitml.specs.Rows.{Row, InAnyOrder}
+use Rattle.bitml.specs.Sorting.{sorted}
 use Rattle.bitml.specs.Rule.{rows}
 use Rattle.bitml.specs.Answers.{rowLine, liquidBy}
 use Rattle.tables.specs.Entries.{Entries}
@@ -15,26 +17,39 @@ use Rattle.texts.specs.Text.{lineText, linesText}
 use Rattle.replies.specs.Answer.{leastText}
 use Rattle.writing.specs.Requests.{makeRequest, checkRequest}
 use Rattle.checker.specs.Entry.{answerTo, placesOf, textIn}
+use Rattle.checker.specs.Demands.{Room}
 
--- The `row` lines for P, and the `liquid` line
-unfoldable pub rowFile : Sheet → ℕ → List ℕ
-rowFile S p = linesText (map rowLine (rows S p))
+-- A file of `row` lines
+unfoldable pub fileOf : List Row → List ℕ
+fileOf R = linesText (map rowLine R)
 
-unfoldable pub lastLine : Sheet → ℕ → List ℕ
-lastLine S p = lineText (liquidBy S p (rows S p))
+-- The `liquid` line for P and rows R
+unfoldable pub lastLine : Sheet → ℕ → List Row → List ℕ
+lastLine S p R = lineText (liquidBy S p R)
 
 -- The text t of a sheet, with places for so many rows and bytes of text
-pub record Exchanged (t : List ℕ) (places text K : ℕ) (E : Entries) (p : ℕ) : Type 0 where
-  -- `make`,P prints the file, and then the `liquid` line
-  pub printed : textIn text (answerTo (makeRequest t p) places text) ≡ rowFile (sheetOf K E) p ++ lastLine (sheetOf K E) p
-  -- `check`,P with the file behind it is read as those rows
-  pub read : readRequest (checkRequest t p (rowFile (sheetOf K E) p)) ≡ request K E (check p (rows (sheetOf K E) p))
-  -- and answered with the same line, and the same rows in the row buffer
-  pub taken : textIn text (answerTo (checkRequest t p (rowFile (sheetOf K E) p)) places text) ≡ lastLine (sheetOf K E) p
-  pub held : placesOf places (answerTo (checkRequest t p (rowFile (sheetOf K E) p)) places text) ≡ placesOf places (answerTo (makeRequest t p) places text)
+module _ (t : List ℕ) (places text K : ℕ) (E : Entries) (p : ℕ) where
+  -- What `make`,P printed
+  pub record Exchanged : Type 0 where
+    -- It is a file, and then the `liquid` line
+    pub printed : textIn text (answerTo (makeRequest t p) places text) ≡ fileOf (rows (sheetOf K E) p) ++ lastLine (sheetOf K E) p (rows (sheetOf K E) p)
+    -- `check`,P with the file behind it is read as those rows
+    pub read : readRequest (checkRequest t p (fileOf (rows (sheetOf K E) p))) ≡ request K E (check p (rows (sheetOf K E) p))
+    -- and answered with the same line, and the same rows in the row buffer
+    pub taken : textIn text (answerTo (checkRequest t p (fileOf (rows (sheetOf K E) p))) places text) ≡ lastLine (sheetOf K E) p (rows (sheetOf K E) p)
+    pub held : placesOf places (answerTo (checkRequest t p (fileOf (rows (sheetOf K E) p))) places text) ≡ placesOf places (answerTo (makeRequest t p) places text)
 
--- for every text of a sheet, every P for whom it is liquid, and all buffers that are long enough
-unfoldable pub OfFiles : Type 0
-OfFiles = (t : List ℕ) (K : ℕ) (E : Entries) → readSheet t ≡ accepted K (length t) E
-    → (p : ℕ) → p < K → Liquid (sheetOf K E) p
-    → (places text : ℕ) → 512 ≤ places → leastText ≤ text → Exchanged t places text K E p
+  -- "accepted after sorting": a file of rows R, sorted, is read as the sorted rows, and gets their `liquid` line, which is R's
+  pub record Resorted (R : List Row) : Type 0 where
+    pub read : readRequest (checkRequest t p (fileOf (sorted R))) ≡ request K E (check p (sorted R))
+    pub taken : textIn text (answerTo (checkRequest t p (fileOf (sorted R))) places text) ≡ lastLine (sheetOf K E) p R
+
+pub record OfFiles : Type 0 where
+  -- For every text of a sheet, every P for whom it is liquid, and all buffers that are long enough
+  pub made : (t : List ℕ) (K : ℕ) (E : Entries) → readSheet t ≡ accepted K (length t) E
+      → (p : ℕ) → p < K → Liquid (sheetOf K E) p
+      → (places text : ℕ) → 512 ≤ places → leastText ≤ text → Exchanged t places text K E p
+  -- and for every file that is read as rows that only their order is against
+  pub sorted : (t : List ℕ) (K : ℕ) (E : Entries) → readSheet t ≡ accepted K (length t) E
+      → (p : ℕ) (R : List Row) → readRequest (checkRequest t p (fileOf R)) ≡ request K E (check p R) → InAnyOrder (sheetOf K E) p R
+      → (places text : ℕ) → Room (checkRequest t p (fileOf R)) places text → Resorted t places text K E p R

@@ -19,11 +19,13 @@ use Rattle.ranges.proofs.Reading.{sheet-ranged, sheet-inside}
 use Rattle.requests.specs.declared.Part.the-variants as part
 use Rattle.requests.specs.declared.RowLine.the-variants as row-line
 use Rattle.requests.specs.Part.{participantAt, makeAt, checkAt, lastPartAt}
-use Rattle.requests.specs.Rows.{mostRows, RowFits, rowsWith, rowNumbersAt, rowAt, rowsFrom, rowsAt}
+use Rattle.requests.specs.Rows.{mostRank, mostRows, RowFits, rowsWith, rowNumbersAt, rowAt, rowsFrom, rowsAt}
 use Rattle.requests.proofs.Laws.{rows-end, rows-on}
+use Rattle.promises.specs.Texts.{Promised}
+use Rattle.promises.proofs.Promised.{promised}
 use Rattle.reader.specs.Request.{request, make, check, fromRows, fromPart, fromSheet, readRequest}
 use Rattle.texts.specs.Text.{letters, field, fields, line, lineText, linesText}
-use Rattle.texts.proofs.Lengths.{fields-most, line-length, Short}
+use Rattle.texts.proofs.Lengths.{fields-most, line-length}
 use Rattle.writing.specs.Requests.{makeRequest, checkRequest}
 use Rattle.writing.proofs.Alone.{reads-on}
 use Rattle.writing.proofs.Numbers.{stands-on, field-reads, first-reads, line-reads}
@@ -96,16 +98,11 @@ module _ (s : List ℕ) (K at p : ℕ) (l : p < K) (k : K ≤ 16) (secrets : ℕ
 
 -- ---- rows
 
--- a row that can be read, and has small numbers
-abbrev pub Readable : (ℕ → ℕ) → ℕ → Row → Type 0
-Readable counts nodes r = RowFits counts nodes r × Short r
-
-module _ (s : List ℕ) (counts : ℕ → ℕ) (nodes : ℕ) where
-  row-reads : (r : Row) (rest : List ℕ) (at : ℕ) → Readable counts nodes r → drop at s ≡ lineText (rowLine r) ++ rest
+module _ (s : List ℕ) (counts : ℕ → ℕ) (nodes : ℕ) (few : nodes ≤ 512) (small : (n : ℕ) → n < nodes → counts n ≤ 16) where
+  row-reads : (r : Row) (rest : List ℕ) (at : ℕ) → RowFits counts nodes r → drop at s ≡ lineText (rowLine r) ++ rest
       → (z : ℕ) × (at < length s) × (rowAt s counts nodes at ≡ row-line.Row (r .node) (r .branch) (r .rank) z) × (drop z s ≡ rest)
   unfolding rowAt rowNumbersAt whenRead packedOf packed fieldLen field lineText
-  row-reads r rest at g e =
-      let fit = g .0 in
+  row-reads r rest at fit e =
       let d : drop at s ≡ letters "row" ++ spread (r .node ∷ r .branch ∷ r .rank ∷ []) (lf ∷ rest) =
       e ∙ line-spread (letters "row") (r .node ∷ r .branch ∷ r .rank ∷ []) rest in
       let d₁ = stands-on s at (letters "row") _ d in
@@ -117,15 +114,15 @@ module _ (s : List ℕ) (counts : ℕ → ℕ) (nodes : ℕ) where
         omega (arith, length-drop at s, ap (λ t. length t) d),
         rw (
           first-reads s at (letters "row") _ d refl (omega arith),
-          below-reads s (at + 3) (r .node) _ d₁ refl (omega (arith, g .1 .0)) nodes (fit .has-node),
-          below-reads s (at + 3 + length (field (r .node))) (r .branch) _ d₂ refl (omega (arith, g .1 .1)) (counts (r .node)) (fit .has-branch),
-          between-reads s (at + 3 + length (field (r .node)) + length (field (r .branch))) (r .rank) _ d₃ refl (omega (arith, g .1 .2)) 1 65535 (fit .has-rank) (fit .rank-most),
+          below-reads s (at + 3) (r .node) _ d₁ refl (omega (arith, few, fit .has-node)) nodes (fit .has-node),
+          below-reads s (at + 3 + length (field (r .node))) (r .branch) _ d₂ refl (omega (arith, small (r .node) (fit .has-node), fit .has-branch)) (counts (r .node)) (fit .has-branch),
+          between-reads s (at + 3 + length (field (r .node)) + length (field (r .branch))) (r .rank) _ d₃ refl (omega (arith, fit .rank-most)) 1 mostRank (fit .has-rank) (fit .rank-most),
           line-reads s q rest d₄,
         ),
         stands-on s q (lf ∷ []) rest d₄,
       )
 
-  rows-read : (i : ℕ) (xs R : List Row) (at : ℕ) → i + length R ≤ mostRows → All (Readable counts nodes) R → drop at s ≡ linesText (map rowLine R)
+  rows-read : (i : ℕ) (xs R : List Row) (at : ℕ) → i + length R ≤ mostRows → All (RowFits counts nodes) R → drop at s ≡ linesText (map rowLine R)
       → (z : ℕ) × (rowsFrom s counts nodes (mostRows - i) xs at ≡ rowsWith (xs ++ R) (got.Value (length (xs ++ R)) z))
   unfolding linesText lineText
   rows-read i xs [] at h a e =
@@ -144,6 +141,10 @@ module _ (s : List ℕ) (counts : ℕ → ℕ) (nodes : ℕ) where
 line-most : (w : List ℕ) (p : ℕ) → length (line w (p ∷ [])) ≤ length w + 22
 line-most w p = omega (arith, line-length w (p ∷ []), fields-most (p ∷ []))
 
+pub check-length : (t : List ℕ) (p : ℕ) (file : List ℕ) → length (checkRequest t p file) ≡ length t + length (line (letters "check") (p ∷ [])) + length file
+unfolding checkRequest
+check-length t p file = let w = line (letters "check") (p ∷ []) in omega (arith, length-append t (w ++ file), length-append w file)
+
 module _ (t : List ℕ) (K : ℕ) (E : Entries) (h : readSheet t ≡ accepted K (length t) E) (p : ℕ) where
   -- neither is too long for a request, where the file is not
   pub make-short : length (makeRequest t p) ≤ 65536
@@ -151,10 +152,7 @@ module _ (t : List ℕ) (K : ℕ) (E : Entries) (h : readSheet t ≡ accepted K 
   make-short = omega (arith, length-append t (line (letters "make") (p ∷ [])), line-most (letters "make") p, sheet-inside t K (length t) E h .1)
 
   pub check-short : (file : List ℕ) → length file ≤ 32000 → length (checkRequest t p file) ≤ 65536
-  unfolding checkRequest
-  check-short file k =
-      let w = line (letters "check") (p ∷ []) in
-      omega (arith, length-append t (w ++ file), length-append w file, line-most (letters "check") p, sheet-inside t K (length t) E h .1)
+  check-short file k = omega (arith, check-length t p file, line-most (letters "check") p, sheet-inside t K (length t) E h .1)
 
 module _ (t : List ℕ) (K : ℕ) (E : Entries) (h : readSheet t ≡ accepted K (length t) E) (p : ℕ) (l : p < K) where
   sheet-stays : (rest : List ℕ) → readSheet (t ++ rest) ≡ accepted K (length t) E
@@ -173,14 +171,16 @@ module _ (t : List ℕ) (K : ℕ) (E : Entries) (h : readSheet t ≡ accepted K 
       ap (fromSheet s) (sheet-stays (line (letters "make") (p ∷ []))) ∙ ap (fromPart s K E) (make-part s K (length t) p l people (defEntryAt E 0 .secrets) e)
 
   -- `check`,P with rows as they are printed
-  pub check-reads : (R : List Row) → length R ≤ 512 → All (Readable (λ n. nodeEntryAt E n .count) (length (E .nodes))) R
+  pub check-reads : (R : List Row) → length R ≤ 512 → All (RowFits (λ n. nodeEntryAt E n .count) (length (E .nodes))) R
       → readRequest (checkRequest t p (linesText (map rowLine R))) ≡ request K E (check p R)
-  unfolding checkRequest readRequest fromSheet fromPart fromRows rowsAt
+  unfolding checkRequest readRequest fromSheet fromPart fromRows rowsAt Promised
   check-reads R few a =
+      let ok = promised t K (length t) E h in
+      let small : (n : ℕ) → n < length (E .nodes) → nodeEntryAt E n .count ≤ 16 = λ n k. omega (arith, ok .node n k .count, ok .node n k .few) in
       let file = linesText (map rowLine R) in
       let s = checkRequest t p file in
       let e : drop (length t) s ≡ letters "check" ++ (field p ++ (lf ∷ file)) =
       drop-append-seam t (line (letters "check") (p ∷ []) ++ file) ∙ line-spread (letters "check") (p ∷ []) file in
-      let w = rows-read s (λ n. nodeEntryAt E n .count) (length (E .nodes)) 0 [] R _ (omega arith) a (rest-stands s (length t) (letters "check") p file e) in
+      let w = rows-read s (λ n. nodeEntryAt E n .count) (length (E .nodes)) (ok .limits .nodes) small 0 [] R _ (omega arith) a (rest-stands s (length t) (letters "check") p file e) in
       ap (fromSheet s) (sheet-stays (line (letters "check") (p ∷ []) ++ file)) ∙ ap (fromPart s K E) (check-part s K (length t) p l people (defEntryAt E 0 .secrets) file e)
       ∙ ap (λ w. fromRows s K E p (w .rows) (w .answer)) (w .1)

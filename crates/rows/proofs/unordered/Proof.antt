@@ -38,8 +38,8 @@ add-t14 : tie.Need-add-t14 Inv-loop μ-loop
 add-t14 c = omega (arith, c .before .before .before .before .before .pre .0 .few)
 
 returns : tie.Need-returns Inv-loop μ-loop
-returns c = let a = c .before .before .before .before .before .args in let A = c .before .before .before .before .loop .ranks in
-    ap (λ f. orElse f (fallAt (a .from + 1))) (sym (twice-hit (a .rows .now) A (c .before .before .before .before .loop .j) (a .n) (c .before .before .before .before .before .pre .0) (c .before .before .before .before .loop .inv .1) (omega arith) (c .if1 .taken)) ∙ c .before .before .before .before .loop .inv .2)
+returns c = let a = c .before .before .before .before .before .args in let l = c .before .before .before .before .loop in
+    ap (λ f. orElse f (fallAt (a .from + 1))) (sym (twice-hit (a .rows .now) (l .ranks) (l .j) (a .n) (c .before .before .before .before .before .pre .0) (l .inv .1) (omega arith) (c .if1 .taken)) ∙ l .inv .2)
 
 mul-ranks : tie.Need-mul-ranks Inv-loop μ-loop
 mul-ranks c = omega (arith, c .before .before .before .before .before .pre .0 .few)
@@ -66,17 +66,18 @@ loop-less : tie.Need-loop-less Inv-loop μ-loop
 loop-less c = search needs
 
 loop-again : tie.Need-loop-again Inv-loop μ-loop
-loop-again c = let a = c .before .before .before .before .before .before .args in let A = c .before .before .before .before .before .loop .ranks in let i = c .before .before .before .before .before .loop .j in let p = c .before .before .before .before .before .before .pre .0 in let h : i < a .n = omega arith in (
+loop-again c = let a = c .before .before .before .before .before .before .args in let l = c .before .before .before .before .before .loop in let p = c .before .before .before .before .before .before .pre .0 in let h : l .j < a .n = omega arith in (
   omega arith,
-  known-next (a .rows .now) A i (a .n) p (c .before .before .before .before .before .loop .inv .1) h (c .before .if1 .left),
-  sym (twice-miss (a .rows .now) A i (a .n) p (c .before .before .before .before .before .loop .inv .1) h (c .before .if1 .left)) ∙ c .before .before .before .before .before .loop .inv .2,
+  known-next (a .rows .now) (l .ranks) (l .j) (a .n) p (l .inv .1) h (c .before .if1 .left),
+  sym (twice-miss (a .rows .now) (l .ranks) (l .j) (a .n) p (l .inv .1) h (c .before .if1 .left)) ∙ l .inv .2,
 )
 
 add-t20 : tie.Need-add-t20 Inv-loop μ-loop
 add-t20 c = omega (arith, c .before .before .pre .0 .few, c .before .before .pre .1 .0)
 
 returns-2 : tie.Need-returns-2 Inv-loop μ-loop
-returns-2 c = let a = c .before .before .args in ap (λ f. orElse f (fallAt (a .from + 1))) (sym (twice-end (a .rows .now) (c .before .loop .j) (a .n) (omega arith)) ∙ c .before .loop .inv .2)
+returns-2 c = let a = c .before .before .args in let l = c .before .loop in
+    ap (λ f. orElse f (fallAt (a .from + 1))) (sym (twice-end (a .rows .now) (l .j) (a .n) (omega arith)) ∙ l .inv .2)
 
 pub unordered-spec : {M : Type 1} → statement M
 unordered-spec =

@@ -37,8 +37,9 @@ typedef struct {
 
 /* length not 0: answered; so many bytes of text were written (read, by hurkoxel_read_sheet), and number, line and field
  * are 0.
- * length 0: refused by this number (1 to 13, 20, 21), at this line and field (both from 1; field 0 from number 10 up; line 0
- * and field 0 where the request is too long, a buffer too short or a table no sheet). docs/FORMAT.md has the table. */
+ * length 0: refused by this number (1 to 13, 20, 21), at this line and field (both from 1; field 0 from number 10 up;
+ * line 0 and field 0 where the request is too long, a buffer too short or a table no sheet). docs/FORMAT.md has the
+ * table. */
 typedef struct {
     size_t number, line, field, length;
 } hurkoxel_reply;

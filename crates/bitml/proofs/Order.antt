@@ -32,7 +32,7 @@ rising-from h end = end
 rising-from {j} h (rise {r = r} g u) = rise {n = j} {r = r} (omega arith) u
 
 -- and no node is below that number
-rising-all : {n : ℕ} {R : List Row} → Rising n R → All (λ q. n ≤ q .node) R
+pub rising-all : {n : ℕ} {R : List Row} → Rising n R → All (λ q. n ≤ q .node) R
 rising-all end = nil
 rising-all {n} (rise {r = r} h u) = cons h (all-imp (λ q k. let k′ : r .node ≤ q .node = k in omega arith) (rising-all u))
 

@@ -12,16 +12,16 @@ use borrow.Author.Tests.{eqb-true, eqb-false, eq-eqb}
 use Rattle.bitml.specs.Lists.{_&_, keep, below, upFrom, All}
 use Rattle.bitml.specs.Sheet.{Sheet, branchesAt, branchAt, parts}
 use Rattle.bitml.specs.Runs.{own, Reached, Liquid}
-use Rattle.bitml.specs.Rows.{has, rankOf, Distinct, empty, apart, Holds, Rising, end, rise, Accepted, check}
+use Rattle.bitml.specs.Rows.{has, rankOf, empty, apart, Holds, end, rise, Accepted, check}
 use Rattle.bitml.specs.Rule.{choiceAt, rankAt, reached, rowFor, rows, stuck, liquid, frozen, verdict, make}
 use Rattle.bitml.specs.Promises.{WellFormed}
 use Rattle.bitml.specs.Demands.{Frozen, Best, Published}
-use Rattle.bitml.proofs.Lists.{and-l, and-r, and-i, all-imp, all-map, all-of, map-cong, any-mem, mem-any, keep-all, keep-imp, mem-keep, mem-up, up-mem, keep-first}
+use Rattle.bitml.proofs.Lists.{and-l, and-r, and-i, all-imp, all-map, all-of, map-cong, any-mem, mem-any, keep-all, mem-keep, mem-up, keep-first}
 use Rattle.bitml.proofs.Actions.{own-parts}
 use Rattle.bitml.proofs.Exits.{chosen, ranked-exit, exit-ranked}
 use Rattle.bitml.proofs.Reach.{reached-sound, reached-complete, branch-reached, reached-in, root-reached}
 use Rattle.bitml.proofs.Best.{rank-is-best}
-use Rattle.bitml.proofs.Order.{rising-from}
+use Rattle.bitml.proofs.Order.{rising-from, rising-all, Ordered}
 use Rattle.bitml.proofs.Checked.{check-is-accepted}
 
 module _ (s : Sheet) (p : ℕ) where
@@ -41,29 +41,23 @@ module _ (s : Sheet) (p : ℕ) where
       go true e f = ap (rankAt s p) (eqb-true k n e)
       go false e f = f (⊎-elim (λ q. absurd (eqb-false k n e (sym q))) (λ q. q) (List·Memᴰ·cases-cons m))
 
-  rows-from : (t : ℕ → Bool) (k n : ℕ) → All (λ q. k ≤ q .node) (map (rowFor s p) (keep t (upFrom k n)))
+  rows-ordered : (t : ℕ → Bool) (k n : ℕ) → Ordered k (map (rowFor s p) (keep t (upFrom k n)))
   unfolding rowFor
-  rows-from t k n = all-map (rowFor s p) (keep-imp t (upFrom k n) (all-imp (λ m h. h .0) (up-mem k n)))
-
-  rows-distinct : (t : ℕ → Bool) (k n : ℕ) → Distinct (map (rowFor s p) (keep t (upFrom k n)))
-  unfolding rowFor
-  rows-distinct t k zero = empty
-  rows-distinct t k (suc n) = go (t k) (rows-distinct t (suc k) n)
+  rows-ordered t k zero = record { distinct = empty; rising = end }
+  rows-ordered t k (suc n) = go (t k) (rows-ordered t (suc k) n)
     where
-      go : (b : Bool) → Distinct (map (rowFor s p) (keep t (upFrom (suc k) n)))
-          → Distinct (map (rowFor s p) (cond b (k ∷ keep t (upFrom (suc k) n)) (keep t (upFrom (suc k) n))))
-      go true d = apart {r = rowFor s p k} (all-imp (λ q h e. let h′ : suc k ≤ q .node = h in let e′ : k ≡ q .node = e in omega arith) (rows-from t (suc k) n)) d
-      go false d = d
+      go : (b : Bool) → Ordered (suc k) (map (rowFor s p) (keep t (upFrom (suc k) n)))
+          → Ordered k (map (rowFor s p) (cond b (k ∷ keep t (upFrom (suc k) n)) (keep t (upFrom (suc k) n))))
+      go true u =
+          record {
+            distinct = apart {r = rowFor s p k} (all-imp (λ q h e. let h′ : suc k ≤ q .node = h in let e′ : k ≡ q .node = e in omega arith) (rising-all (u .rising))) (u .distinct);
+            rising = rise {n = k} {r = rowFor s p k} (omega arith) (rising-from {j = k} {k = suc k} (omega arith) (u .rising));
+          }
+      go false u = record { distinct = u .distinct; rising = rising-from {j = k} {k = suc k} (omega arith) (u .rising) }
 
-  rows-rising : (t : ℕ → Bool) (k n : ℕ) → Rising k (map (rowFor s p) (keep t (upFrom k n)))
-  unfolding rowFor
-  rows-rising t k zero = end
-  rows-rising t k (suc n) = go (t k) (rows-rising t (suc k) n)
-    where
-      go : (b : Bool) → Rising (suc k) (map (rowFor s p) (keep t (upFrom (suc k) n)))
-          → Rising k (map (rowFor s p) (cond b (k ∷ keep t (upFrom (suc k) n)) (keep t (upFrom (suc k) n))))
-      go true u = rise {n = k} {r = rowFor s p k} (omega arith) (rising-from {j = k} {k = suc k} (omega arith) u)
-      go false u = rising-from {j = k} {k = suc k} (omega arith) u
+  rows-in-order : Ordered 0 (rows s p)
+  unfolding rows
+  rows-in-order = rows-ordered (reached s) 0 (length (s .nodes))
 
   -- ---- the published rows
 
@@ -101,11 +95,11 @@ module _ (s : Sheet) (p : ℕ) where
         record {
           asked =
               record {
-                distinct = rows-distinct (reached s) 0 (length (s .nodes));
+                distinct = rows-in-order .distinct;
                 root = has-row ns _ (listed _ (root-reached s wf));
                 each = all-map (rowFor s p) (all-imp (λ n e. row-holds n e (exit-ranked s wf p n (f n (reached-sound s n e)))) (keep-all (reached s) (below (length (s .nodes)))));
               };
-          rising = rows-rising (reached s) 0 (length (s .nodes));
+          rising = rows-in-order .rising;
         }
 
     row-best : (n : ℕ) → reached s n ≡ true → Liquid s p → Best s p (rankOf (rows s p)) (rowFor s p n)
@@ -134,10 +128,10 @@ module _ (s : Sheet) (p : ℕ) where
           ruled =
               record {
                 reach = λ n. (rows-reached n, λ r. has-row ns n (listed n (reached-complete s wf n r)));
-                once = rows-distinct (reached s) 0 (length (s .nodes));
+                once = rows-in-order .distinct;
                 each = all-map (rowFor s p) (all-imp (λ n e. row-best n e f) (keep-all (reached s) (below (length (s .nodes)))));
               };
-          rising = rows-rising (reached s) 0 (length (s .nodes));
+          rising = rows-in-order .rising;
         }
 
     -- ---- what the list of stuck nodes says

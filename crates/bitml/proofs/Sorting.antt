@@ -44,7 +44,7 @@ perm-has (List·Permᴰ·swap {a = a} {b = b} {l = R} e f) n =
     or-swap (eqb (a .node) n) (eqb (b .node) n) (has R n) ∙ ap₂ (λ x y. eqb (x .node) n or (eqb (y .node) n or has R n)) f e
 perm-has (List·Permᴰ·trans d d′) n = perm-has d n ∙ perm-has d′ n
 
-rank-swap : (a b : Row) (R : List Row) (n : ℕ) → (a .node ≡ b .node → ⊥) → rankOf (a ∷ b ∷ R) n ≡ rankOf (b ∷ a ∷ R) n
+pub rank-swap : (a b : Row) (R : List Row) (n : ℕ) → (a .node ≡ b .node → ⊥) → rankOf (a ∷ b ∷ R) n ≡ rankOf (b ∷ a ∷ R) n
 rank-swap a b R n ne = go (eqb (a .node) n) refl (eqb (b .node) n) refl
   where
     go : (t : Bool) → eqb (a .node) n ≡ t → (u : Bool) → eqb (b .node) n ≡ u

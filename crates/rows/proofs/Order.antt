@@ -66,9 +66,6 @@ module _ (u : List ℕ) (i n : ℕ) (h : i < n) where
             lower : (rowIn u i .node ≡ above - 1 → ⊥) → rowIn u i .node < above - 1
             lower ne = omega (arith, ne)
 
-pub fall-start : (u : List ℕ) (n : ℕ) → falling (0 + 1) (0 - 1) (drop 0 (rowsOf n u)) ≡ falling 1 0 (rowsOf n u)
-fall-start u n = refl
-
 -- ---- where the loop ends
 
 pub order-end : (u : List ℕ) (i n above : ℕ) → n ≤ i

@@ -7,10 +7,11 @@ use mathlib.Core.List.{List, [], _∷_, _++_}
 use lib.ListN.{length, getD, set, drop, replicate, length-set, length-replicate, drop-of-length-le}
 use lib.Seq.{drop-cons}
 use lib.Dec.{eqb}
-use borrow.Author.Tests.{eq-eqb, ne-eqb, eqb-true, eqb-false}
+use borrow.Author.Tests.{eq-eqb, ne-eqb, eqb-false}
 use Rattle.bitml.specs.Lists.{_or_, All, nil, cons}
 use Rattle.bitml.specs.Rows.{Row, has, rankOf, repeated}
 use Rattle.bitml.proofs.Lists.{or-no-l, or-no-r, all-head, all-tail, all-append}
+use Rattle.bitml.proofs.Sorting.{rank-swap}
 use Rattle.bitml.proofs.Counting.{at-store}
 use Rattle.tables.specs.Entries.{held}
 use Rattle.tables.specs.SheetOf.{branchCount}
@@ -69,14 +70,8 @@ has-rank (r ∷ R) a m = go (eqb (r .node) m) (has-rank R (all-tail a) m)
 rank-next : (P : List Row) (r : Row) (m : ℕ) → has P (r .node) ≡ false → rankOf (P ++ (r ∷ [])) m ≡ rankOf (r ∷ P) m
 rank-next [] r m e = refl
 rank-next (q ∷ P) r m e =
-    ap (cond (eqb (q .node) m) (q .rank)) (rank-next P r m (or-no-r (eqb (q .node) (r .node)) (has P (r .node)) e)) ∙ go (eqb (q .node) m) refl (eqb (r .node) m) refl
-  where
-    go : (a : Bool) → eqb (q .node) m ≡ a → (b : Bool) → eqb (r .node) m ≡ b
-        → cond a (q .rank) (cond b (r .rank) (rankOf P m)) ≡ cond b (r .rank) (cond a (q .rank) (rankOf P m))
-    go true f true g = absurd (eqb-false (q .node) (r .node) (or-no-l (eqb (q .node) (r .node)) (has P (r .node)) e) (eqb-true (q .node) m f ∙ sym (eqb-true (r .node) m g)))
-    go true f false g = refl
-    go false f true g = refl
-    go false f false g = refl
+    ap (cond (eqb (q .node) m) (q .rank)) (rank-next P r m (or-no-r (eqb (q .node) (r .node)) (has P (r .node)) e))
+    ∙ rank-swap q r P m (eqb-false (q .node) (r .node) (or-no-l (eqb (q .node) (r .node)) (has P (r .node)) e))
 
 pub known-has : (R : List Row) (A : List ℕ) → Known R A → (m : ℕ) → has R m ≡ hasBy A m
 unfolding hasBy

@@ -2,14 +2,14 @@ use Rattle.requests.specs.Rows.{rowIn, rowsOf}
 use borrow.Author.Needs.{needs}
 use native.Mathlib.Omega.{arith}
 use Prim.Native.Nat.{_≤_, _<_, _+_, _-_}
-use mathlib.Core.Path.{_≡_, sym, ap, ap₂, _∙_, subst}
+use mathlib.Core.Path.{_≡_, refl, sym, ap, ap₂, _∙_, subst}
 use mathlib.Core.List.{[]}
 use lib.ListN.{drop}
 use Rattle.bitml.specs.Rows.{Fault, orElse, repeated, falling}
 use Rattle.rows.specs.Given.{Known, orderFault}
 use Rattle.requests.proofs.Laws.{rows-none}
 use Rattle.rows.proofs.Ranks.{known-next, twice-miss, twice-start}
-use Rattle.rows.proofs.Order.{Topped, topped-none, topped-next, fall-start, fall-miss, order-hit, order-end, some-fault}
+use Rattle.rows.proofs.Order.{Topped, topped-none, topped-next, fall-miss, order-hit, order-end, some-fault}
 use Rattle.rows.proofs.index.Statement.{statement}
 use Rattle.rows.proofs.index.Tie as tie
 
@@ -23,7 +23,7 @@ abbrev μ-loop : tie.MeasureT-loop
 
 loop-holds : tie.Need-loop-holds Inv-loop μ-loop
 loop-holds c = let a = c .before .args in let A = c .before .pre .1 in
-    (omega arith, rw (rows-none (a .rows .now)) A, topped-none (a .ranks .now) A, twice-start (a .rows .now) (a .n), fall-start (a .rows .now) (a .n))
+    (omega arith, rw (rows-none (a .rows .now)) A, topped-none (a .ranks .now) A, twice-start (a .rows .now) (a .n), refl)
 
 mul-m : tie.Need-mul-m Inv-loop μ-loop
 mul-m c = omega (arith, c .before .before .before .pre .0 .few)

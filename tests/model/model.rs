@@ -554,7 +554,7 @@ impl<'a> Reader<'a> {
 
     /// Reads a branch of a contract at this depth.
     fn branch(&mut self, depth: usize) -> Result<Branch, Refusal> {
-        let all = limit!(Signers, 1u64 << self.participants);
+        let all = limit!(Signers, number!(Range, self.participants));
         let no_room = self.branches >= limit!(Branches, BRANCHES);
         let six = rule!(6; SignersIsFour: 4);
         let signers = self.number(|signers| [(six, signers >= all), (7, no_room)])?;
@@ -886,7 +886,7 @@ impl Branch {
     }
 
     pub fn is_signed_by(&self, participant: usize) -> bool {
-        self.signers >> participant & 1 == 1
+        self.signers & number!(Signs, participant) != 0
     }
 }
 
@@ -905,7 +905,7 @@ impl Sheet {
         let owners = &self.definitions[definition].owners;
         let branch = &self.nodes[node].branches[branch];
         let signers = branch.signers;
-        let signed_by_none_but_them = rule!(signers & !(1 << participant) == 0;
+        let signed_by_none_but_them = rule!(signers & !number!(Own, participant) == 0;
             SignersIgnored: true,
             NoSignerAtAll: signers == 0,
             MustSign: signers == 1 << participant,
@@ -1424,7 +1424,7 @@ impl Ledger {
                 };
                 let signed = self.contracts[*contract].signed[*branch];
                 let signer = rule!(signable.is_signed_by(*participant); AnyoneSigns: true);
-                let already = rule!(signed >> participant & 1 == 1;
+                let already = rule!(signed & number!(Signs, *participant) != 0;
                     SignedTwice: false,
                     SignedTwiceAfterOthers: signed == 1 << participant);
                 let early = rule!(false; SignedWhenOpen: signable.opens > self.time);
@@ -1578,7 +1578,7 @@ impl Ledger {
                 contract,
                 branch,
             } => {
-                let signed = rule!(1 << participant; OneSignsForAll: u64::MAX);
+                let signed = rule!(number!(Signs, *participant); OneSignsForAll: u64::MAX);
                 self.contracts[*contract].signed[*branch] |= signed;
                 rule!((); SignsEveryBranch: self.contracts[*contract].signed.fill(signed));
             }

@@ -2,10 +2,11 @@
 //!
 //! The model names them where they apply: `rule!(right; Name: wrong, ..)` for a rule, `limit!(Name, most)`
 //! for a limit, which is also tried one higher and one lower, and `lower!(one, other)` for the order of
-//! two refusals.  `asking!(value)` marks where the value of a condition is asked for an own branch:
-//! the rules of conditions are tried there alone, in the ledger alone, and in both.  Without
-//! `--cfg wrong_rules` these are the right expression and nothing else is run.  With it one wrong rule
-//! at a time can be turned on, and pins.rs shows that some case then has another answer.
+//! two refusals.  `number!(Name, p)` is 2^p, which stands for participant p in a signers field: each
+//! is also tried in the place of the next.  `asking!(value)` marks where the value of a condition is asked
+//! for an own branch: the rules of conditions are tried there alone, in the ledger alone, and in both.
+//! Without `--cfg wrong_rules` these are the right expression and nothing else is run.  With it one wrong
+//! rule at a time can be turned on, and pins.rs shows that some case then has another answer.
 
 use std::collections::VecDeque;
 
@@ -35,6 +36,12 @@ macro_rules! lower {
 macro_rules! asking {
     ($value:expr) => {
         $value
+    };
+}
+#[cfg(not(wrong_rules))]
+macro_rules! number {
+    ($name:ident, $power:expr) => {
+        1u64 << $power
     };
 }
 
@@ -67,6 +74,12 @@ macro_rules! asking {
         wrong::ask(|| $value)
     };
 }
+#[cfg(wrong_rules)]
+macro_rules! number {
+    ($name:ident, $power:expr) => {
+        1u64 << wrong::instead(wrong::Number::$name, $power)
+    };
+}
 
 #[cfg(wrong_rules)]
 pub use switch::*;
@@ -89,6 +102,8 @@ mod switch {
         Fewer(Limit),
         /// Of these two refusals the first, the higher number, is given where both apply.
         Order(u32, u32),
+        /// These two powers of 2 are swapped.
+        Swapped(Number, usize, usize),
     }
 
     thread_local! {
@@ -123,6 +138,18 @@ mod switch {
         value
     }
 
+    /// The power of 2 that is taken, which may be swapped with another.
+    pub fn instead(number: Number, power: usize) -> usize {
+        match on() {
+            Some(Wrong::Swapped(on, one, other)) if on == number => match power {
+                _ if power == one => other,
+                _ if power == other => one,
+                _ => power,
+            },
+            _ => power,
+        }
+    }
+
     /// The lower of two refusals, or the higher where just these two are in the wrong order.
     pub fn lower(one: u32, other: u32) -> u32 {
         let (lower, higher) = (one.min(other), one.max(other));
@@ -140,7 +167,15 @@ mod switch {
         let rules = Rule::ALL.iter().map(|(rule, _)| Wrong::Rule(*rule));
         let values = CONDITIONS.iter();
         let values = values.flat_map(|rule| [Wrong::Asking(*rule), Wrong::Firing(*rule)]);
-        limits.chain(orders).chain(rules).chain(values).collect()
+        let numbers = (0..16).map(|p| (p, (p + 1) % 16)).flat_map(|(one, other)| {
+            [
+                Wrong::Swapped(Number::Own, one, other),
+                Wrong::Swapped(Number::Signs, one, other),
+                Wrong::Swapped(Number::Range, one + 1, other + 1),
+            ]
+        });
+        let all = limits.chain(orders).chain(rules).chain(values);
+        all.chain(numbers).collect()
     }
 
     /// The words of a table for one of its names.
@@ -159,6 +194,12 @@ mod switch {
                 Wrong::More(limit) => format!("{}, and one more", words(Limit::ALL, limit)),
                 Wrong::Fewer(limit) => format!("{}, but one", words(Limit::ALL, limit)),
                 Wrong::Order(first, second) => format!("{first} comes before {second}"),
+                Wrong::Swapped(number, one, other) => {
+                    format!(
+                        "2^{one} and 2^{other} swapped, {}",
+                        words(Number::ALL, number)
+                    )
+                }
             }
         }
     }
@@ -276,6 +317,12 @@ mod switch {
         LentAllRows "8,192 places lent for rows of `makeall`"
         LentText "180,224 bytes lent for text"
         PlacesEach "512 places for each participant of `makeall`"
+    }
+
+    table! { Number:
+        Own "the number of a participant whose branch is own"
+        Signs "the number of a participant who signs"
+        Range "above the signers of so many participants"
     }
 
     /// These limits are those of a table too, and the cases of tables catch them.

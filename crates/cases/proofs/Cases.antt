@@ -32,7 +32,7 @@ use Rattle.texts.specs.Text as text
 use Rattle.plays.specs.Values as values
 use Rattle.plays.specs.Events as played-events
 use Rattle.checker.specs.Entry.{answerForAll, answerFor, judged, early, answerTo, refusedIn, textIn}
-use Rattle.cases.specs.Cases.Case.{Case, printedFor, copies, byte, T, M, D, R, N, W, tie}
+use Rattle.cases.specs.Cases.Case.{Case, printedFor, copies, byte, T, M, D, R, N, W, each, tie}
 use Rattle.cases.specs.Cases.Tried as tried-cases
 use Rattle.cases.specs.Cases.Sheet as sheet-cases
 use Rattle.cases.specs.Cases.Conditions as conditions-cases
@@ -68,7 +68,7 @@ allPass test (c ∷ cs) = test c & allPass test cs
 
 -- the test with all that it takes to compute it: whoever opens this opens these
 unfoldable pub passed : List Case → Bool
-unfolding allPass printTest laidOut sameText copies byte T M D R N W tie printedFor textIn refusedIn answerTo early judged answerForAll answerFor
+unfolding allPass printTest laidOut sameText copies byte T M D R N W each tie printedFor textIn refusedIn answerTo early judged answerForAll answerFor
     field.fieldLen field.textAt field.endAt field.allDigits field.digitsOn field.digitsOf field.numberOf field.numberAt field.packed field.packedOf field.wordFrom field.wordAt field.firstAt field.lineEndAt field.whenRead field.belowAt field.betweenAt
     places.stepOf places.walk places.placeOf places.markOf places.lastFrom places.passingOf
     tables.branchNumbers tables.partNumbers tables.pickE tables.readE tables.pickC tables.readC tables.condAt tables.actionOf tables.branchOf tables.nodeOf tables.defOf tables.sheetOf

@@ -1,12 +1,14 @@
--- The loop over signers; signatures as the bits of a number, and what adding a clear bit does. Assumes nothing.
-use Prim.Native.Nat.{ℕ, zero, suc, _+_, _-_, _/_, _%_, _^_, _≤_, _<_}
-use mathlib.Core.Bool.{Bool, true, false}
+-- Who signs, by a participant's number; the loop over signers; what adding a clear bit does. Assumes nothing.
+use Prim.Native.Nat.{ℕ, zero, suc, _+_, _*_, _-_, _/_, _%_, _^_, _≤_, _<_}
+use mathlib.Core.Bool.{Bool, true, false, true≢false, not}
 use mathlib.Core.Path.{_≡_, refl, sym, ap, ap₂, _∙_}
 use mathlib.Core.Logic.{_⊎_, ⊎-elim}
 use native.Mathlib.Omega.{arith}
-use native.Mathlib.Numerals.{add-one}
-use native.Mathlib.Nat.{pow-zero, pow-suc, pow-succ', div-div-eq-div-mul}
+use native.Mathlib.Numerals.{one-add}
+use native.Mathlib.Nat.{pow-zero, pow-succ'}
 use lib.Dec.{eqb}
+use lib.Bits.{bitAnd, and-high}
+use lib.Pow.{pow-pos}
 use borrow.Author.Tests.{eq-eqb, ne-eqb, le-leb, lt-leb}
 use Rattle.bitml.specs.Lists.{_⇒_, ask, every, upFrom}
 use Rattle.bitml.proofs.Lists.{and-false, and-true, imp-i, ask-no, ask-yes}
@@ -24,6 +26,26 @@ imp-none : (a b : Bool) → a ≡ false → (a ⇒ b) ≡ true
 unfolding _⇒_
 imp-none a b e = rw e
 
+-- ---- who signs
+
+module _ (x p : ℕ) where
+  -- what a number has in common with 2 ^ p
+  and-bit : {b : ℕ} → bit x p ≡ b → bitAnd x (2 ^ p) ≡ b * 2 ^ p
+  and-bit e =
+      ap (bitAnd x) (let z = pow-succ' 2 p in let w : 2 ^ p ≡ 2 ^ (1 + p) - 2 ^ p = rw one-add (omega arith) in w)
+      ∙ and-high x 1 p ∙ ap (λ b. b * 2 ^ p) e
+
+  signs-not : bit x p ≡ 0 → not (eqb (bitAnd x (2 ^ p)) 0) ≡ eqb (bit x p) 1
+  signs-not e = ap not (eq-eqb _ 0 (let z = and-bit e in let w : bitAnd x (2 ^ p) ≡ 0 = omega arith in w)) ∙ sym (ne-eqb (bit x p) 1 (λ q. omega arith))
+
+  signs-too : bit x p ≡ 1 → not (eqb (bitAnd x (2 ^ p)) 0) ≡ eqb (bit x p) 1
+  signs-too e = ap not (ne-eqb (bitAnd x (2 ^ p)) 0 (λ q. let z = and-bit e in let w = pow-pos p in omega arith)) ∙ sym (eq-eqb _ 1 e)
+
+  pub signs-is : {m : ℕ} → m ≡ 2 ^ p → not (eqb (bitAnd x m) 0) ≡ eqb (bit x p) 1
+  signs-is e = rw e (⊎-elim signs-not signs-too (two (x / 2 ^ p)))
+
+-- ---- all signers signed
+
 -- what is left to look at after i participants
 unfoldable pub leftover : ℕ → ℕ → ℕ → ℕ → Bool
 leftover K x y i = every (λ p. eqb (x / 2 ^ p % 2) 1 ⇒ eqb (y / 2 ^ p % 2) 1) (upFrom i (K - i))
@@ -33,30 +55,19 @@ module _ (K x y : ℕ) where
   unfolding covers leftover
   cover-start = ap (λ n. every (λ p. eqb (x / 2 ^ p % 2) 1 ⇒ eqb (y / 2 ^ p % 2) 1) (upFrom 0 n)) (let z : K - 0 ≡ K = omega arith in z)
 
-  module _ (i : ℕ) {s m : ℕ} (es : s ≡ x / 2 ^ i) (em : m ≡ y / 2 ^ i) where
-    bit-at : (z w : ℕ) → w ≡ z / 2 ^ i → w % 2 ≡ z / 2 ^ i % 2
-    bit-at z w e = ap (λ a. a % 2) e
-
-    pub cover-bad : i < K → s % 2 ≡ 1 → m % 2 ≡ 0 → leftover K x y i ≡ false
+  module _ (i : ℕ) (h : i < K) where
+    pub cover-bad : eqb (bit x i) 1 ≡ true → eqb (bit y i) 1 ≡ false → leftover K x y i ≡ false
     unfolding leftover
-    cover-bad h a b = ap (every (λ p. eqb (x / 2 ^ p % 2) 1 ⇒ eqb (y / 2 ^ p % 2) 1)) (up-one i K h)
-        ∙ and-false _ _ (imp-false _ _ (eq-eqb _ 1 (sym (bit-at x s es) ∙ a)) (ne-eqb (y / 2 ^ i % 2) 1 (λ (q : y / 2 ^ i % 2 ≡ 1). let z = bit-at y m em in omega arith)))
+    cover-bad a b = ap (every (λ p. eqb (x / 2 ^ p % 2) 1 ⇒ eqb (y / 2 ^ p % 2) 1)) (up-one i K h) ∙ and-false _ _ (imp-false _ _ a b)
 
-    pub cover-good : i < K → ((s % 2 ≡ 1) → ⊥) ⊎ ((m % 2 ≡ 0) → ⊥) → leftover K x y i ≡ leftover K x y (i + 1)
+    pub cover-good : (eqb (bit x i) 1 ≡ false) ⊎ (eqb (bit y i) 1 ≡ true) → leftover K x y i ≡ leftover K x y (i + 1)
     unfolding leftover
-    cover-good h o = ap (every (λ p. eqb (x / 2 ^ p % 2) 1 ⇒ eqb (y / 2 ^ p % 2) 1)) (up-one i K h)
-        ∙ and-true _ _ (⊎-elim (λ (n : s % 2 ≡ 1 → ⊥). imp-none _ _ (ne-eqb _ 1 (λ q. n (bit-at x s es ∙ q))))
-        (λ (n : m % 2 ≡ 0 → ⊥). imp-i _ _ (eq-eqb _ 1 (sym (bit-at y m em) ∙ ⊎-elim (λ z. absurd (n z)) (λ z. z) (two m)))) o)
+    cover-good o = ap (every (λ p. eqb (x / 2 ^ p % 2) 1 ⇒ eqb (y / 2 ^ p % 2) 1)) (up-one i K h)
+        ∙ and-true _ _ (⊎-elim (imp-none _ _) (imp-i _ _) o)
 
   pub cover-end : (i : ℕ) → K ≤ i → leftover K x y i ≡ true
   unfolding leftover
   cover-end i h = ap (every (λ p. eqb (x / 2 ^ p % 2) 1 ⇒ eqb (y / 2 ^ p % 2) 1)) (up-end i K h)
-
-pub halved : (x i : ℕ) {s : ℕ} → s ≡ x / 2 ^ i → s / 2 ≡ x / 2 ^ (i + 1)
-halved x i e = ap (λ a. a / 2) e ∙ div-div-eq-div-mul x (2 ^ i) 2 ∙ ap (λ a. x / a) (sym (ap (λ j. 2 ^ j) (add-one i) ∙ pow-suc 2 i))
-
-pub whole : (x : ℕ) → x ≡ x / 2 ^ 0
-whole x = rw pow-zero (omega arith)
 
 -- ---- what holds an entry back
 
@@ -110,9 +121,8 @@ bit-others (suc p) (suc q) m e n =
     let w : (m + 2 ^ suc p) / 2 ≡ m / 2 + 2 ^ p = omega arith in
     bit-suc (m + 2 ^ suc p) q ∙ ap (λ y. bit y q) w ∙ bit-others p q (m / 2) (sym (bit-suc m p) ∙ e) (λ k. n (ap suc k)) ∙ sym (bit-suc m q)
 
-pub mask-some : {m : ℕ} (p : ℕ) → m ≡ 2 ^ p → 0 < m
-mask-some zero e = let w = pow-zero 2 in omega arith
-mask-some (suc p) e = let w = pow-succ' 2 p in let h = mask-some p refl in omega arith
+pub bit-clear : (x p : ℕ) → eqb (bit x p) 1 ≡ false → bit x p ≡ 0
+bit-clear x p z = ⊎-elim (λ q. q) (λ q. absurd (true≢false (sym (eq-eqb _ 1 q) ∙ z))) (two (x / 2 ^ p))
 
-pub mask-room : {m : ℕ} (p x : ℕ) → p < 16 → x ≤ 65535 → m ≡ 2 ^ p → x / m % 2 ≡ 0 → x + m ≤ 65535
-mask-room p x h k e z = let w = bit-room p 16 x h (omega arith) (sym (ap (λ y. x / y % 2) e) ∙ z) in omega arith
+pub mask-room : {m : ℕ} (p x : ℕ) → p < 16 → x ≤ 65535 → m ≡ 2 ^ p → eqb (bit x p) 1 ≡ false → x + m ≤ 65535
+mask-room p x h k e z = let w = bit-room p 16 x h (omega arith) (bit-clear x p z) in omega arith

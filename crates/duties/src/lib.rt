@@ -7,10 +7,12 @@ use sheets::node_weight;
 use sheets::part_count;
 use sheets::part_of;
 use sheets::people;
+use tables::mask_of;
 use truth::condition_holds;
 ghost use mathlib.Core.Path.{_≡_};
 ghost use mathlib.Core.List.{map};
-ghost use Prim.Native.Nat.{_+_, _-_, _≤_, _<_};
+ghost use Prim.Native.Nat.{_+_, _-_, _/_, _%_, _^_, _≤_, _<_};
+ghost use lib.Dec.{eqb};
 ghost use lib.ListN.{length};
 ghost use Rattle.bitml.specs.Lists.{every, upFrom};
 ghost use Rattle.bitml.specs.Sheet.{holds};
@@ -20,22 +22,27 @@ ghost use Rattle.sheets.specs.Ready.{Ready, Indexed};
 ghost use Rattle.truth.specs.Evaluation.{Values};
 ghost use Rattle.duties.specs.Duties.{covers, notYet, toldAt, numberAt, weightOf, depositsOf, stateOf};
 
+// Participant p is one of those who sign by signers.
+pub fn signs(signers: usize, p: usize) -> bool
+    requires { ⌜ p < 16 ⌝ }
+    ensures { λ r. ⌜ r ≡ eqb (signers / 2 ^ p % 2) 1 ⌝ }
+{
+    let m = mask_of(p);
+    signers & m != 0
+}
+
 // Each of the people who signs by signers has signed by mask.
 pub fn all_signed(people: usize, signers: usize, mask: usize) -> bool
     requires { ⌜ people ≤ 16 ⌝ }
     ensures { λ r. ⌜ r ≡ covers people signers mask ⌝ }
 {
-    let mut s = signers;
-    let mut m = mask;
     let mut i = 0;
     while i < people {
-        if s % 2 == 1 {
-            if m % 2 == 0 {
+        if signs(signers, i) {
+            if !signs(mask, i) {
                 return false;
             }
         }
-        s = s / 2;
-        m = m / 2;
         i += 1;
     }
     true

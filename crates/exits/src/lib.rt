@@ -5,7 +5,6 @@ use sheets::branch_count;
 use sheets::branch_kind;
 use sheets::branch_of;
 use sheets::def_root;
-use sheets::mask_of;
 use sheets::node_definition;
 use sheets::node_total;
 use sheets::part_count;
@@ -15,7 +14,7 @@ use tables::Sheet;
 ghost use mathlib.Core.Path.{_≡_};
 ghost use mathlib.Core.Bool.{true, cond};
 ghost use mathlib.Core.List.{[]};
-ghost use Prim.Native.Nat.{ℕ, _+_, _*_, _^_, _≤_, _<_};
+ghost use Prim.Native.Nat.{ℕ, _+_, _*_, _≤_, _<_};
 ghost use lib.Dec.{eqb};
 ghost use lib.ListN.{length, getD};
 ghost use Rattle.bitml.specs.Lists.{keep, below};
@@ -67,19 +66,18 @@ fn served(t: &[usize], ranks: &[usize; Sheet::NODES], b: usize, x: &[usize]) -> 
 fn cost(
     t: &[usize],
     p: usize,
-    mask: usize,
     n: usize,
     b: usize,
     ranks: &[usize; Sheet::NODES],
     x: &[usize],
 ) -> usize
     requires { ⌜ Ready (now t) ⌝ }
-    requires { ⌜ (mask ≡ 2 ^ p) × (n < length (held (now t) .nodes)) × (b < length (held (now t) .branches)) ⌝ }
+    requires { ⌜ (p < people (now t)) × (n < length (held (now t) .nodes)) × (b < length (held (now t) .branches)) ⌝ }
     requires { ⌜ Ranked (now ranks) (parts (branchOf (held (now t)) b .action)) ⌝ }
     requires { ⌜ Indexed (held (now t)) (now x) ⌝ }
     ensures { λ r. ⌜ r ≡ branchCost (people (now (t .entry))) (held (now (t .entry))) p n b (now (ranks .entry)) ⌝ }
 {
-    if own(t, p, mask, n, b) {
+    if own(t, p, n, b) {
         let kind = branch_kind(t, b);
         if kind == Action::WITHDRAW {
             return 1;
@@ -113,16 +111,9 @@ fn better(k: usize, b: usize, c: Choice) -> Choice
 }
 
 // The least rank of node n over its branches, and the first branch with it.
-fn choose(
-    t: &[usize],
-    p: usize,
-    mask: usize,
-    n: usize,
-    ranks: &[usize; Sheet::NODES],
-    x: &[usize],
-) -> Choice
+fn choose(t: &[usize], p: usize, n: usize, ranks: &[usize; Sheet::NODES], x: &[usize]) -> Choice
     requires { ⌜ Ready (now t) ⌝ }
-    requires { ⌜ (mask ≡ 2 ^ p) × (n < length (held (now t) .nodes)) ⌝ }
+    requires { ⌜ (p < people (now t)) × (n < length (held (now t) .nodes)) ⌝ }
     requires { ⌜ ((i : ℕ) → i < branchCount (held (now t)) n → Ranked (now ranks) (parts (branchOf (held (now t)) (branchNumber (held (now t)) n i) .action))) ⌝ }
     requires { ⌜ Indexed (held (now t)) (now x) ⌝ }
     ensures { λ r. ⌜ asChoice r ≡ chosenFrom (people (now (t .entry))) (held (now (t .entry))) p n (now (ranks .entry)) 0 (branchCount (held (now (t .entry))) n) ⌝ }
@@ -132,7 +123,7 @@ fn choose(
     while 0 < i {
         i = i - 1;
         let b = branch_of(t, x, n, i);
-        let k = cost(t, p, mask, n, b, ranks, x);
+        let k = cost(t, p, n, b, ranks, x);
         best = better(k, i, best);
     }
     best
@@ -142,20 +133,19 @@ fn choose(
 fn rank_all(
     t: &[usize],
     p: usize,
-    mask: usize,
     ranks: &mut [usize; Sheet::NODES],
     branches: &mut [usize; Sheet::NODES],
     x: &[usize],
 )
     requires { ⌜ Ready (now t) ⌝ }
-    requires { ⌜ (mask ≡ 2 ^ p) × (length (now ranks) ≡ 512) × (length (now branches) ≡ 512) ⌝ }
+    requires { ⌜ (p < people (now t)) × (length (now ranks) ≡ 512) × (length (now branches) ≡ 512) ⌝ }
     requires { ⌜ Indexed (held (now t)) (now x) ⌝ }
     ensures { λ _. ⌜ Ranks (people (now (t .entry))) (held (now (t .entry))) p (now (ranks .exit)) (now (branches .exit)) 0 ⌝ }
 {
     let mut n = node_total(t);
     while 0 < n {
         n = n - 1;
-        let c = choose(t, p, mask, n, ranks, x);
+        let c = choose(t, p, n, ranks, x);
         ranks[n] = c.rank;
         branches[n] = c.branch;
     }
@@ -387,10 +377,9 @@ pub fn make(
     ensures { λ r. ⌜ r ≡ answerOf (rule.make (sheetIn (now (t .entry))) p) ⌝ }
     ensures { λ r. ⌜ now (rows .exit) ≡ bufferOf (length (now (rows .entry))) (rule.make (sheetIn (now (t .entry))) p) ⌝ }
 {
-    let mask = mask_of(p);
     let mut ranks = [0usize; Sheet::NODES];
     let mut branches = [0usize; Sheet::NODES];
-    rank_all(t, p, mask, &mut ranks, &mut branches, x);
+    rank_all(t, p, &mut ranks, &mut branches, x);
     clear(rows);
     let n = node_total(t);
     let bad = first_stuck(marks, &ranks, n);

@@ -1,7 +1,7 @@
 -- The ways out of sign. Assumes nothing.
-use Prim.Native.Nat.{ℕ, _+_, _*_, _/_, _%_, _^_, _≤_, _<_}
+use Prim.Native.Nat.{ℕ, _+_, _*_, _^_, _≤_, _<_}
 use mathlib.Core.Bool.{Bool, true, false, not}
-use mathlib.Core.Path.{_≡_, refl, sym, ap, ap₂, _∙_, fun-ext, subst}
+use mathlib.Core.Path.{_≡_, refl, sym, ap, _∙_, fun-ext, subst}
 use mathlib.Core.List.{List}
 use mathlib.Core.Logic.{⊎-elim}
 use native.Mathlib.Omega.{arith}
@@ -18,8 +18,8 @@ use Rattle.tables.specs.Entries.{held, people, firstOf}
 use Rattle.tables.specs.SheetOf.{branchEntryAt, branchCount, branchNumber, branchOf, sheetIn}
 use Rattle.tables.proofs.Laws.{firstOf-set}
 use Rattle.sheets.specs.Ready.{Ready}
-use Rattle.sheets.proofs.Bits.{bit, two}
-use Rattle.duties.proofs.Signing.{bit-put, bit-others}
+use Rattle.sheets.proofs.Bits.{bit}
+use Rattle.duties.proofs.Signing.{bit-clear, bit-put, bit-others}
 use Rattle.ledger.specs.declared.Ledger.{Ledger}
 use Rattle.ledger.specs.View.{view, contractOf, setOf, signedBy}
 use Rattle.ledger.specs.Fit.{Fit}
@@ -106,24 +106,27 @@ module _ (t : List ℕ) (l : Ledger) (p c b : ℕ) (ok : Ready t) (f : Fit t l) 
       unfolding signedBy
       signed-is = ap (λ r. r .signed b p) (contract-of t l c h) ∙ and-true _ _ (lt-ltb b 16 few)
 
-      sign-stranger : bit (branchEntryAt (held t) R .signers) p ≡ 0 → Does t l (sign p c b) (withAnswer l 16)
+      sign-stranger : eqb (bit (branchEntryAt (held t) R .signers) p) 1 ≡ false → Does t l (sign p c b) (withAnswer l 16)
       unfolding refusal
       sign-stranger z = refused t l (sign p c b) 15 f (ask-yes _ _ _ (live-is t l f c b h e k)
-          ∙ ask-no _ _ _ (and-false _ _ (ne-eqb _ 1 (λ (q : bit (theBranch (sheetIn t) now-as c b .signers) p ≡ 1). let w = ap (λ x. bit x p) signers-are in omega arith))))
+          ∙ ask-no _ _ _ (and-false _ _ (ap (λ x. eqb (bit x p) 1) signers-are ∙ z)))
 
-      sign-twice : (bit (getD (l .signed) (c * 16 + b) 0) p ≡ 0 → ⊥) → Does t l (sign p c b) (withAnswer l 16)
+      sign-twice : eqb (bit (getD (l .signed) (c * 16 + b) 0) p) 1 ≡ true → Does t l (sign p c b) (withAnswer l 16)
       unfolding refusal
       sign-twice z = refused t l (sign p c b) 15 f (ask-yes _ _ _ (live-is t l f c b h e k)
-          ∙ ask-no _ _ _ (and-no _ _ (ap not (signed-is ∙ eq-eqb _ 1 (⊎-elim (λ q. absurd (z q)) (λ q. q) (two _))))))
+          ∙ ask-no _ _ _ (and-no _ _ (ap not (signed-is ∙ z))))
 
       -- the same, over what the code read
-      pub sign-stranger-by : {q r m : ℕ} → q ≡ branchNumber (held t) N b → r ≡ branchEntryAt (held t) q .signers → m ≡ 2 ^ p → r / m % 2 ≡ 0 → Does t l (sign p c b) (withAnswer l 16)
-      sign-stranger-by eq er em z = sign-stranger (sym (ap₂ (λ x y. x / y % 2) (er ∙ ap (λ x. branchEntryAt (held t) x .signers) eq) em) ∙ z)
+      read-signers : {q r : ℕ} {x : Bool} → q ≡ branchNumber (held t) N b → r ≡ branchEntryAt (held t) q .signers → x ≡ eqb (bit r p) 1 → eqb (bit (branchEntryAt (held t) R .signers) p) 1 ≡ x
+      read-signers eq er ex = sym (ex ∙ ap (λ r. eqb (bit r p) 1) (er ∙ ap (λ q. branchEntryAt (held t) q .signers) eq))
 
-      pub sign-twice-by : {m : ℕ} → m ≡ 2 ^ p → (getD (l .signed) (c * 16 + b) 0 / m % 2 ≡ 0 → ⊥) → Does t l (sign p c b) (withAnswer l 16)
-      sign-twice-by em z = sign-twice (λ e. z (ap (λ y. getD (l .signed) (c * 16 + b) 0 / y % 2) em ∙ e))
+      pub sign-stranger-by : {q r : ℕ} {x : Bool} → q ≡ branchNumber (held t) N b → r ≡ branchEntryAt (held t) q .signers → x ≡ eqb (bit r p) 1 → x ≡ false → Does t l (sign p c b) (withAnswer l 16)
+      sign-stranger-by eq er ex z = sign-stranger (read-signers eq er ex ∙ z)
 
-      module _ (s : (bit (branchEntryAt (held t) R .signers) p ≡ 0 → ⊥)) (z : bit (getD (l .signed) (c * 16 + b) 0) p ≡ 0) where
+      pub sign-twice-by : {x : Bool} → x ≡ eqb (bit (getD (l .signed) (c * 16 + b) 0) p) 1 → x ≡ true → Does t l (sign p c b) (withAnswer l 16)
+      sign-twice-by ex z = sign-twice (sym ex ∙ z)
+
+      module _ (s : eqb (bit (branchEntryAt (held t) R .signers) p) 1 ≡ true) (z : eqb (bit (getD (l .signed) (c * 16 + b) 0) p) 1 ≡ false) where
         abbrev put : Ledger
         put = withSigned l (set (l .signed) (c * 16 + b) (getD (l .signed) (c * 16 + b) 0 + 2 ^ p))
 
@@ -133,18 +136,17 @@ module _ (t : List ℕ) (l : Ledger) (p c b : ℕ) (ok : Ready t) (f : Fit t l) 
         asks : refusal (sheetIn t) now-as (sign p c b) ≡ 0
         unfolding refusal
         asks = ask-yes _ _ _ (live-is t l f c b h e k)
-            ∙ ask-yes _ _ _ (and-i _ _ (eq-eqb _ 1 (ap (λ x. bit x p) signers-are ∙ ⊎-elim (λ q. absurd (s q)) (λ q. q) (two _)))
-            (ap not (signed-is ∙ ne-eqb _ 1 (λ (q : bit (getD (l .signed) (c * 16 + b) 0) p ≡ 1). omega arith))))
+            ∙ ask-yes _ _ _ (and-i _ _ (ap (λ x. eqb (bit x p) 1) signers-are ∙ s) (ap not (signed-is ∙ z)))
 
         sign-view : view (people t) put ≡ after (sheetIn t) now-as (sign p c b)
         unfolding view after
         sign-view = ap (λ (cs : List Contract). record { time = l .time; contracts = cs; sets = firstOf (setOf l) (l .sets); paid = firstOf (λ p. getD (l .paid) p 0) (people t) })
             (firstOf-set (contractOf l) (contractOf put) (l .made) c _ noContract h
             (ap (λ (g : ℕ → ℕ → Bool). record { node = getD (l .node) c 0; balance = getD (l .balance) c 0; set = getD (l .set) c 0; signed = g; alive = getD (l .alive) c false })
-            (signed-here (l .signed) c b p few inside z)
+            (signed-here (l .signed) c b p few inside (bit-clear _ p z))
             ∙ ap (λ r. signing r b p) (sym (contract-of t l c h)))
             (λ i hi n. ap (λ (g : ℕ → ℕ → Bool). record { node = getD (l .node) i 0; balance = getD (l .balance) i 0; set = getD (l .set) i 0; signed = g; alive = getD (l .alive) i false })
-            (signed-other (l .signed) c b p few inside z i n)))
+            (signed-other (l .signed) c b p few inside (bit-clear _ p z) i n)))
 
         fresh : (k : ℕ) → l .made * 16 ≤ k → getD (put .signed) k 0 ≡ 0
         fresh k x = getD-set-other (l .signed) (c * 16 + b) k _ 0 (λ q. let w = few in omega arith) ∙ f .fresh k x
@@ -179,8 +181,9 @@ module _ (t : List ℕ) (l : Ledger) (p c b : ℕ) (ok : Ready t) (f : Fit t l) 
               };
             })
 
-      pub sign-taken-by : {q r m : ℕ} → q ≡ branchNumber (held t) N b → r ≡ branchEntryAt (held t) q .signers → m ≡ 2 ^ p → (r / m % 2 ≡ 0 → ⊥) → getD (l .signed) (c * 16 + b) 0 / m % 2 ≡ 0
+      pub sign-taken-by : {q r m : ℕ} {x y : Bool} → q ≡ branchNumber (held t) N b → r ≡ branchEntryAt (held t) q .signers → x ≡ eqb (bit r p) 1 → x ≡ true
+          → y ≡ eqb (bit (getD (l .signed) (c * 16 + b) 0) p) 1 → y ≡ false → m ≡ 2 ^ p
           → Does t l (sign p c b) (withSigned l (set (l .signed) (c * 16 + b) (getD (l .signed) (c * 16 + b) 0 + m)))
-      sign-taken-by eq er em s z =
+      sign-taken-by eq er ex s ey z em =
           subst (λ m. Does t l (sign p c b) (withSigned l (set (l .signed) (c * 16 + b) (getD (l .signed) (c * 16 + b) 0 + m)))) (sym em)
-          (sign-taken (λ e. s (ap₂ (λ x y. x / y % 2) (er ∙ ap (λ x. branchEntryAt (held t) x .signers) eq) em ∙ e)) (sym (ap (λ y. getD (l .signed) (c * 16 + b) 0 / y % 2) em) ∙ z))
+          (sign-taken (read-signers eq er ex ∙ s) (sym ey ∙ z))

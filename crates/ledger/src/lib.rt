@@ -4,6 +4,7 @@ use duties::deposits;
 use duties::held_back;
 use duties::holds_for;
 use duties::number_of;
+use duties::signs;
 use duties::state_of;
 use duties::weigh;
 use sheets::branch_arg;
@@ -16,12 +17,12 @@ use sheets::branch_secrets;
 use sheets::branch_signers;
 use sheets::def_root;
 use sheets::def_secrets;
-use sheets::mask_of;
 use sheets::node_weight;
 use sheets::part_count;
 use sheets::part_of;
 use tables::Action;
 use tables::Sheet;
+use tables::mask_of;
 ghost use mathlib.Core.Path.{_≡_};
 ghost use Prim.Native.Nat.{ℕ, _+_, _≤_, _<_};
 ghost use lib.ListN.{length, getD};
@@ -136,20 +137,19 @@ impl Ledger {
             return self;
         }
         let q = branch_of(t, x, n, b);
-        let m = mask_of(p);
         let signers = branch_signers(t, q);
-        if signers / m % 2 == 0 {
+        if !signs(signers, p) {
             self.answer = 16;
             return self;
         }
         let at = c * Sheet::BRANCHES_OF_NODE + b;
         let old = self.signed[at] as usize;
-        if old / m % 2 != 0 {
+        if signs(old, p) {
             self.answer = 16;
             return self;
         }
         self.answer = 0;
-        self.signed[at] = (old + m) as u16;
+        self.signed[at] = (old + mask_of(p)) as u16;
         self
     }
 

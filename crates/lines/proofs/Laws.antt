@@ -1,12 +1,12 @@
 -- Laws of line 1 and the `def` lines. Assumes nothing.
 use Prim.Native.Nat.{ℕ, zero, suc, _+_, _-_, _*_, _≤_, _<_, _^_}
-use mathlib.Core.Path.{_≡_, refl, sym, subst}
+use mathlib.Core.Path.{_≡_, refl, sym, ap, _∙_, subst}
 use mathlib.Core.List.{List}
-use native.Mathlib.Nat.{pow-suc, pow-le-pow-right}
-use native.Mathlib.Numerals.{add-one, sub-one}
+use native.Mathlib.Nat.{pow-succ'}
+use native.Mathlib.Numerals.{sub-one}
 use native.Mathlib.Omega.{arith}
 use lib.ListN.{length}
-use lib.Dec.{ltb, lit<}
+use lib.Dec.{ltb}
 use Rattle.fields.specs.Field.{numberAt, lineEndAt}
 use Rattle.tables.specs.declared.St.{St}
 use Rattle.tables.specs.Entries.{firstOf, nodeIn, defIn}
@@ -23,11 +23,10 @@ use Rattle.contracts.specs.Counts.{Few, Added}
 use Rattle.lines.specs.Counts.{Between, Defined}
 use Rattle.lines.specs.Definition.{within, depositsAt, rootAt, ownedAt, defineAt, blank}
 
-pub power-more : {r : ℕ} (i : ℕ) → r ≡ 2 ^ i → r * 2 ≡ 2 ^ (i + 1)
-power-more i h = rw (add-one, pow-suc, h)
-
-pub power-below : {i : ℕ} → i ≤ 16 → 2 ^ i ≤ 2 ^ 16
-power-below k = pow-le-pow-right (lit< tt) k
+-- "2^K" is twice the number of the last of K participants
+pub twice-last : {m : ℕ} (k : ℕ) → 1 ≤ k → m ≡ 2 ^ (k - 1) → 2 * m ≡ 2 ^ k
+twice-last zero h e = absurd (omega arith)
+twice-last (suc k) h e = ap (λ m. 2 * m) (e ∙ ap (λ p. 2 ^ p) (sub-one (suc k))) ∙ sym (pow-succ' 2 k)
 
 -- the deposits, one by one
 module _ (P : St → Type 0) (s : List ℕ) where

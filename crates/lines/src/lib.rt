@@ -12,12 +12,13 @@ use steps::first_word;
 use steps::num;
 use tables::Sheet;
 use tables::St;
+use tables::mask_of;
 use tables::put_def;
 use tables::put_header;
 use tables::put_listed;
 ghost use mathlib.Core.Path.{_≡_};
 ghost use mathlib.Core.List.{List};
-ghost use Prim.Native.Nat.{ℕ, _+_, _≤_, _<_, _^_};
+ghost use Prim.Native.Nat.{ℕ, _+_, _≤_, _<_};
 ghost use lib.ListN.{length};
 ghost use Rattle.tables.specs.State.{stateOf};
 ghost use Rattle.steps.specs.Steps.{Outcome, Met, times};
@@ -235,20 +236,6 @@ fn definitions(s: &[u8], at: usize, n: usize, z: Limits, t: &mut [usize]) -> Rea
     Read::Value(0, cur)
 }
 
-// 2 to the power of k.
-fn power(k: usize) -> usize
-    requires { ⌜ k ≤ 16 ⌝ }
-    ensures { λ r. ⌜ r ≡ 2 ^ k ⌝ }
-{
-    let mut r: usize = 1;
-    let mut i: usize = 0;
-    while i < k {
-        r = r * 2;
-        i += 1;
-    }
-    r
-}
-
 // The limit on the sheet's bytes, put on what was read without it.
 fn limit(s: &[u8], g: Read) -> Read
     ensures { λ r. ⌜ ((n : ℕ) (w : Outcome) (t : List ℕ) → Met (Defined (now (s .entry)) n) w g t → Met (Defined (now (s .entry)) n) (limited (now (s .entry)) w) r t) ⌝ }
@@ -288,7 +275,7 @@ fn after_line_one(s: &[u8], k: usize, n: usize, at: usize, t: &mut [usize]) -> G
     ensures { λ r. ⌜ (answered r (now (t .exit)) ≡ sheetFrom (now (s .entry)) (Counts k n at)) × whenAccepted (now (s .entry)) r (now (t .exit)) ⌝ }
 {
     let z = Limits {
-        all: power(k),
+        all: 2 * mask_of(k - 1),
         people: k,
         defs: n,
         def: 0,

@@ -9,15 +9,16 @@ use sheets::def_secrets;
 use sheets::listed_at;
 use sheets::node_definition;
 use tables::Action;
+use tables::mask_of;
 use truth::counts;
 ghost use mathlib.Core.Path.{_≡_};
 ghost use mathlib.Core.List.{map};
-ghost use Prim.Native.Nat.{_+_, _^_, _≤_, _<_};
+ghost use Prim.Native.Nat.{_+_, _≤_, _<_};
 ghost use lib.ListN.{length};
 ghost use Rattle.bitml.specs.Lists.{every, upFrom};
 ghost use Rattle.bitml.specs.Sheet.{owns};
 ghost use Rattle.bitml.specs.Runs.{own};
-ghost use Rattle.tables.specs.Entries.{held};
+ghost use Rattle.tables.specs.Entries.{held, people};
 ghost use Rattle.tables.specs.SheetOf.{listedAt, branchOf, sheetIn};
 ghost use Rattle.sheets.specs.Ready.{Ready};
 
@@ -42,16 +43,16 @@ fn owns_all(t: &[usize], p: usize, d: usize, first: usize, count: usize) -> bool
     true
 }
 
-// Branch b, one of node n, is own to p; mask is 2 to the power of p. The condition is asked last: an `r` lists a secret, and a secret has
-// one owner, so that of all participants one at the most comes to it.
-pub fn own(t: &[usize], p: usize, mask: usize, n: usize, b: usize) -> bool
+// Branch b, one of node n, is own to p. The condition is asked last: an `r` lists a secret, and a secret has one owner, so that of all
+// participants one at the most comes to it.
+pub fn own(t: &[usize], p: usize, n: usize, b: usize) -> bool
     requires { ⌜ Ready (now t) ⌝ }
-    requires { ⌜ (mask ≡ 2 ^ p) × (n < length (held (now t) .nodes)) × (b < length (held (now t) .branches)) ⌝ }
+    requires { ⌜ (p < people (now t)) × (n < length (held (now t) .nodes)) × (b < length (held (now t) .branches)) ⌝ }
     ensures { λ r. ⌜ r ≡ own (sheetIn (now (t .entry))) p n (branchOf (held (now (t .entry))) b) ⌝ }
 {
     let signers = branch_signers(t, b);
     if signers != 0 {
-        if signers != mask {
+        if signers != mask_of(p) {
             return false;
         }
     }

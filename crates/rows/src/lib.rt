@@ -6,14 +6,13 @@ use sheets::branch_count;
 use sheets::branch_kind;
 use sheets::branch_of;
 use sheets::def_root;
-use sheets::mask_of;
 use sheets::part_count;
 use sheets::part_of;
 use tables::Action;
 use tables::Sheet;
 ghost use mathlib.Core.Path.{_≡_};
 ghost use mathlib.Core.List.{[]};
-ghost use Prim.Native.Nat.{ℕ, suc, _+_, _^_, _≤_, _<_};
+ghost use Prim.Native.Nat.{ℕ, suc, _+_, _≤_, _<_};
 ghost use lib.ListN.{length, getD, drop};
 ghost use Rattle.bitml.specs.Lists.{every};
 ghost use Rattle.bitml.specs.Rows.{repeated, orElse, faulty};
@@ -176,7 +175,6 @@ fn least(t: &[usize], ranks: &[usize; Sheet::NODES], b: usize, x: &[usize]) -> u
 fn wrong(
     t: &[usize],
     p: usize,
-    mask: usize,
     ranks: &[usize; Sheet::NODES],
     node: usize,
     branch: usize,
@@ -184,7 +182,7 @@ fn wrong(
     x: &[usize],
 ) -> usize
     requires { ⌜ Ready (now t) ⌝ }
-    requires { ⌜ (mask ≡ 2 ^ p) × (node < length (held (now t) .nodes)) × (branch < branchCount (held (now t)) node) ⌝ }
+    requires { ⌜ (p < people (now t)) × (node < length (held (now t) .nodes)) × (branch < branchCount (held (now t)) node) ⌝ }
     requires { ⌜ ((m : ℕ) → getD (now ranks) m 0 ≤ mostRank) ⌝ }
     requires { ⌜ Indexed (held (now t)) (now x) ⌝ }
     ensures { λ r. ⌜ r ≡ faultBy (people (now (t .entry))) (held (now (t .entry))) p (now (ranks .entry)) (row node branch rank) ⌝ }
@@ -193,7 +191,7 @@ fn wrong(
         return MISSING;
     }
     let b = branch_of(t, x, node, branch);
-    if !own(t, p, mask, node, b) {
+    if !own(t, p, node, b) {
         return NOT_OWN;
     }
     if rank < least(t, ranks, b, x) {
@@ -206,14 +204,13 @@ fn wrong(
 fn faults(
     t: &[usize],
     p: usize,
-    mask: usize,
     ranks: &[usize; Sheet::NODES],
     rows: &[usize],
     n: usize,
     x: &[usize],
 ) -> Fault
     requires { ⌜ Ready (now t) ⌝ }
-    requires { ⌜ mask ≡ 2 ^ p ⌝ }
+    requires { ⌜ p < people (now t) ⌝ }
     requires { ⌜ RowsFit (now t) (now rows) n ⌝ }
     requires { ⌜ Known (rowsOf n (now rows)) (now ranks) ⌝ }
     requires { ⌜ Indexed (held (now t)) (now x) ⌝ }
@@ -224,7 +221,7 @@ fn faults(
         let node = rows[3 * i];
         let branch = rows[3 * i + 1];
         let rank = rows[3 * i + 2];
-        let number = wrong(t, p, mask, ranks, node, branch, rank, x);
+        let number = wrong(t, p, ranks, node, branch, rank, x);
         if number != 0 {
             return Fault {
                 number,
@@ -256,7 +253,6 @@ fn first_fault(
     ensures { λ r. ⌜ asFault r ≡ bitml.check (sheetIn (now (t .entry))) p (rowsOf n (now (rows .entry))) ⌝ }
     ensures { λ r. ⌜ (r .number ≡ 0 → Known (rowsOf n (now (rows .entry))) (now (ranks .exit))) ⌝ }
 {
-    let mask = mask_of(p);
     let order = index(rows, n, ranks);
     if order.number != 0 {
         return order;
@@ -268,7 +264,7 @@ fn first_fault(
             place: 0,
         };
     }
-    faults(t, p, mask, ranks, rows, n, x)
+    faults(t, p, ranks, rows, n, x)
 }
 
 // Whether the n rows of the buffer are accepted for p: the `liquid` line, or the first refusal.

@@ -2,7 +2,7 @@
 use bucket::bucket;
 use tables::Sheet;
 ghost use mathlib.Core.Path.{_≡_};
-ghost use Prim.Native.Nat.{_^_, _≤_, _<_};
+ghost use Prim.Native.Nat.{_≤_, _<_};
 ghost use lib.ListN.{length};
 ghost use Rattle.tables.specs.Entries.{held, people};
 ghost use Rattle.tables.specs.SheetOf.{nodeEntryAt, branchEntryAt, defEntryAt, listedAt, cellAt, branchCount, branchNumber, partCount, partNumber, depositOf, ownerOf};
@@ -284,18 +284,4 @@ pub fn index(t: &[usize], x: &mut [usize])
         Sheet::BRANCHES + 1,
         &mut x[PARTS_FROM..],
     );
-}
-
-// 2 to the power of p: the signers that are p alone.
-pub fn mask_of(p: usize) -> usize
-    requires { ⌜ p < 16 ⌝ }
-    ensures { λ r. ⌜ r ≡ 2 ^ p ⌝ }
-{
-    let mut m: usize = 1;
-    let mut i = 0;
-    while i < p {
-        m = m * 2;
-        i += 1;
-    }
-    m
 }

@@ -1,6 +1,6 @@
 // The one table that holds a sheet: its layout, and how much of it is filled.
 ghost use mathlib.Core.Path.{_≡_};
-ghost use Prim.Native.Nat.{_≤_, _<_};
+ghost use Prim.Native.Nat.{_^_, _≤_, _<_};
 ghost use lib.ListN.{length};
 ghost use Rattle.tables.specs.State.{stateOf, Fits, nodeEntry, branchEntry, defEntry, withNode, withBranch, withDef, withListed, withCell, moreNodes, moreBranches, moreDefs, moreListed, moreCells, listedOf, among, since, Headed};
 ghost use Rattle.tables.specs.Entries.{tableLong};
@@ -113,6 +113,34 @@ pub struct Head {
     pub node: usize,
     pub signers: usize,
     pub opens: usize,
+}
+
+// The number that stands for each participant in a signers field; the field is the sum of those who must sign.
+const MASKS: [usize; Sheet::PEOPLE] = [
+    1,
+    2,
+    4,
+    8,
+    16,
+    32,
+    64,
+    128,
+    256,
+    512,
+    1024,
+    2048,
+    4096,
+    8192,
+    16384,
+    32768,
+];
+
+// The number of participant p.
+pub fn mask_of(p: usize) -> usize
+    requires { ⌜ p < 16 ⌝ }
+    ensures { λ r. ⌜ r ≡ 2 ^ p ⌝ }
+{
+    MASKS[p]
 }
 
 // A branch's action: its kind, the number after its letter or the node of its contract, and of an `r` where its secrets are

@@ -45,6 +45,13 @@ N = letters "bitml,1,1\ndef,1,0,c,0\n"
 unfoldable pub W : List ℕ
 W = letters "bitml,1,1\ndef,1,0,c,1,0,0,w,0\n"
 
+-- sixteen participants: branch p pays participant p, who alone signs it
+unfoldable pub each : List ℕ
+each =
+    letters "bitml,16,1\ndef" ++ copies 16 (letters ",0")
+    ++ letters ",0,c,16,1,0,w,0,2,0,w,1,4,0,w,2,8,0,w,3,16,0,w,4,32,0,w,5,64,0,w,6,128,0,w,7,256,0,w,8,512,0,w,9,1024,0,w,10"
+    ++ letters ",2048,0,w,11,4096,0,w,12,8192,0,w,13,16384,0,w,14,32768,0,w,15\n"
+
 -- one participant: two splits of equal rank, one into two contracts, the other into one with another below it
 unfoldable pub tie : List ℕ
 tie = letters "bitml,1,1\ndef,1,0,c,2,0,0,s,2,1,c,1,0,0,w,0,1,c,1,0,0,w,0,0,0,s,1,1,c,1,0,0,s,1,1,c,1,0,0,w,0\n"

@@ -1,7 +1,7 @@
 -- "The ledger": stipulation, what each event asks and does, and 14 to 18. Assumes nothing.
 use mathlib.Core.List.{List, [], _∷_, _++_}
 use Rattle.texts.specs.Text.{letters}
-use Rattle.cases.specs.Cases.Case.{Case, T, D, R, N, W, copies}
+use Rattle.cases.specs.Cases.Case.{Case, T, D, R, N, W, each, copies}
 
 unfoldable pub cases : List Case
 cases =
@@ -66,6 +66,22 @@ cases =
           ++ letters ",0,c,1,65535,0,w,0\nplay\nsign,0,0,0\nsign,1,0,0\nsign,2,0,0\nsign,3,0,0\nsign,4,0,0\nsign,5,0,0\nsign,6,0,0\nsign,7,0,0\nsign,8,0,0\n"
           ++ letters "sign,9,0,0\nsign,10,0,0\nsign,11,0,0\nsign,12,0,0\nsign,13,0,0\nsign,14,0,0\nfire,0,0\nsign,15,0,0\nfire,0,0\n",
       copies 15 (letters "taken\n") ++ letters "refused,16,19,0\ntaken\ntaken\nend,0,0" ++ copies 16 (letters ",0") ++ letters "\n",
+    )
+    -- each of sixteen signs by the number that stands for it, and by no other
+    ∷ (
+      each
+          ++ letters "play\nfire,0,0\nsign,1,0,0\nsign,0,0,0\nfire,0,1\nsign,2,0,1\nsign,1,0,1\nfire,0,2\nsign,3,0,2\nsign,2,0,2\nfire,0,3\n"
+          ++ letters "sign,4,0,3\nsign,3,0,3\nfire,0,4\nsign,5,0,4\nsign,4,0,4\nfire,0,5\nsign,6,0,5\nsign,5,0,5\nfire,0,6\nsign,7,0,6\n"
+          ++ letters "sign,6,0,6\nfire,0,7\nsign,8,0,7\nsign,7,0,7\nfire,0,8\nsign,9,0,8\nsign,8,0,8\nfire,0,9\nsign,10,0,9\nsign,9,0,9\n"
+          ++ letters "fire,0,10\nsign,11,0,10\nsign,10,0,10\nfire,0,11\nsign,12,0,11\nsign,11,0,11\nfire,0,12\nsign,13,0,12\nsign,12,0,12\n"
+          ++ letters "fire,0,13\nsign,14,0,13\nsign,13,0,13\nfire,0,14\nsign,15,0,14\nsign,14,0,14\nfire,0,15\nsign,0,0,15\nsign,15,0,15\n"
+          ++ letters "fire,0,9\n",
+      letters "refused,16,4,0\nrefused,16,5,0\ntaken\nrefused,16,7,0\nrefused,16,8,0\ntaken\nrefused,16,10,0\nrefused,16,11,0\ntaken\n"
+          ++ letters "refused,16,13,0\nrefused,16,14,0\ntaken\nrefused,16,16,0\nrefused,16,17,0\ntaken\nrefused,16,19,0\nrefused,16,20,0\ntaken\n"
+          ++ letters "refused,16,22,0\nrefused,16,23,0\ntaken\nrefused,16,25,0\nrefused,16,26,0\ntaken\nrefused,16,28,0\nrefused,16,29,0\ntaken\n"
+          ++ letters "refused,16,31,0\nrefused,16,32,0\ntaken\nrefused,16,34,0\nrefused,16,35,0\ntaken\nrefused,16,37,0\nrefused,16,38,0\ntaken\n"
+          ++ letters "refused,16,40,0\nrefused,16,41,0\ntaken\nrefused,16,43,0\nrefused,16,44,0\ntaken\nrefused,16,46,0\nrefused,16,47,0\ntaken\n"
+          ++ letters "refused,16,49,0\nrefused,16,50,0\ntaken\ntaken\nend,0,0" ++ copies 16 (letters ",0") ++ letters "\n",
     )
     -- `sign` asks no opening time
     ∷ (

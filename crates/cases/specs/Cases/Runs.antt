@@ -2,7 +2,7 @@
 use Prim.Native.Nat.{ℕ}
 use mathlib.Core.List.{List, [], _∷_, _++_}
 use Rattle.texts.specs.Text.{letters}
-use Rattle.cases.specs.Cases.Case.{Case, N, tie}
+use Rattle.cases.specs.Cases.Case.{Case, N, each, tie}
 
 -- secret 0 is 0's in definition 0 and 1's in definition 1
 unfoldable pub owners : List ℕ
@@ -18,6 +18,14 @@ cases =
     ∷ (letters "bitml,2,1\ndef,1,1,0,c,1,2,0,w,0\nmake,0\n", letters "frozen,0,0\n")
     ∷ (letters "bitml,3,1\ndef,1,1,1,0,c,1,4,0,w,0\nmake,2\n", letters "row,0,0,1\nliquid,2,1,1\n")
     ∷ (letters "bitml,3,1\ndef,1,1,1,0,c,1,5,0,w,2\nmake,2\n", letters "frozen,2,0\n")
+    -- by the number of each of sixteen
+    ∷ (
+      each ++ letters "makeall\n",
+      letters "row,0,0,1\nliquid,0,1,1\nrow,0,1,1\nliquid,1,1,1\nrow,0,2,1\nliquid,2,1,1\nrow,0,3,1\nliquid,3,1,1\nrow,0,4,1\nliquid,4,1,1\n"
+          ++ letters "row,0,5,1\nliquid,5,1,1\nrow,0,6,1\nliquid,6,1,1\nrow,0,7,1\nliquid,7,1,1\nrow,0,8,1\nliquid,8,1,1\nrow,0,9,1\nliquid,9,1,1\n"
+          ++ letters "row,0,10,1\nliquid,10,1,1\nrow,0,11,1\nliquid,11,1,1\nrow,0,12,1\nliquid,12,1,1\nrow,0,13,1\nliquid,13,1,1\n"
+          ++ letters "row,0,14,1\nliquid,14,1,1\nrow,0,15,1\nliquid,15,1,1\n",
+    )
     -- "with `w`", whoever is paid
     ∷ (letters "bitml,2,1\ndef,1,1,0,c,1,0,0,w,0\nmake,1\n", letters "row,0,0,1\nliquid,1,1,1\n")
     -- "`s`", all of whose contracts have exits, also those of weight 0

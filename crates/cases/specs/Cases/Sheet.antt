@@ -74,6 +74,20 @@ cases =
     ∷ (letters "bitml,16,1\ndef" ++ copies 16 (letters ",0") ++ letters ",0,c,1,65536,0,w,15\nmake,15\n", letters "refused,6,2,21\n")
     ∷ (letters "bitml,1,1\ndef,1,0,c,1,9999999999999999999,0,w,0\n", letters "refused,6,2,6\n")
     ∷ (letters "bitml,1,1\ndef,1,0,c,1,02,0,w,0\n", letters "refused,3,2,6\n")
+    -- for each K that is left: 2^K - 1, and then 2^K
+    ∷ (letters "bitml,3,1\ndef" ++ copies 3 (letters ",0") ++ letters ",0,c,2,7,0,w,0,8,0,w,0\n", letters "refused,6,2,12\n")
+    ∷ (letters "bitml,4,1\ndef" ++ copies 4 (letters ",0") ++ letters ",0,c,2,15,0,w,0,16,0,w,0\n", letters "refused,6,2,13\n")
+    ∷ (letters "bitml,5,1\ndef" ++ copies 5 (letters ",0") ++ letters ",0,c,2,31,0,w,0,32,0,w,0\n", letters "refused,6,2,14\n")
+    ∷ (letters "bitml,6,1\ndef" ++ copies 6 (letters ",0") ++ letters ",0,c,2,63,0,w,0,64,0,w,0\n", letters "refused,6,2,15\n")
+    ∷ (letters "bitml,7,1\ndef" ++ copies 7 (letters ",0") ++ letters ",0,c,2,127,0,w,0,128,0,w,0\n", letters "refused,6,2,16\n")
+    ∷ (letters "bitml,8,1\ndef" ++ copies 8 (letters ",0") ++ letters ",0,c,2,255,0,w,0,256,0,w,0\n", letters "refused,6,2,17\n")
+    ∷ (letters "bitml,9,1\ndef" ++ copies 9 (letters ",0") ++ letters ",0,c,2,511,0,w,0,512,0,w,0\n", letters "refused,6,2,18\n")
+    ∷ (letters "bitml,10,1\ndef" ++ copies 10 (letters ",0") ++ letters ",0,c,2,1023,0,w,0,1024,0,w,0\n", letters "refused,6,2,19\n")
+    ∷ (letters "bitml,11,1\ndef" ++ copies 11 (letters ",0") ++ letters ",0,c,2,2047,0,w,0,2048,0,w,0\n", letters "refused,6,2,20\n")
+    ∷ (letters "bitml,12,1\ndef" ++ copies 12 (letters ",0") ++ letters ",0,c,2,4095,0,w,0,4096,0,w,0\n", letters "refused,6,2,21\n")
+    ∷ (letters "bitml,13,1\ndef" ++ copies 13 (letters ",0") ++ letters ",0,c,2,8191,0,w,0,8192,0,w,0\n", letters "refused,6,2,22\n")
+    ∷ (letters "bitml,14,1\ndef" ++ copies 14 (letters ",0") ++ letters ",0,c,2,16383,0,w,0,16384,0,w,0\n", letters "refused,6,2,23\n")
+    ∷ (letters "bitml,15,1\ndef" ++ copies 15 (letters ",0") ++ letters ",0,c,2,32767,0,w,0,32768,0,w,0\n", letters "refused,6,2,24\n")
     -- "opening time (0 to 4,294,967,295)"
     ∷ (
       letters "bitml,1,1\ndef,1,0,c,1,0,4294967295,w,0\nplay\nwait,4294967294\nfire,0,0\nwait,1\nfire,0,0\n",

@@ -12,10 +12,10 @@ use Rattle.exits.proofs.choose.Statement.{statement}
 use Rattle.exits.proofs.choose.Tie as tie
 
 abbrev Inv-loop : tie.InvT-loop
-Inv-loop t p mask n ranks x i₀ best₀ i best = (i ≤ branchCount (held t) n) × (asChoice best ≡ chosenFrom (people t) (held t) p n ranks i (branchCount (held t) n - i))
+Inv-loop t p n ranks x i₀ best₀ i best = (i ≤ branchCount (held t) n) × (asChoice best ≡ chosenFrom (people t) (held t) p n ranks i (branchCount (held t) n - i))
 
 abbrev μ-loop : tie.MeasureT-loop
-μ-loop t p mask n ranks x i₀ best₀ i best = i
+μ-loop t p n ranks x i₀ best₀ i best = i
 
 branch-count-requires : tie.Need-branch-count-requires Inv-loop μ-loop
 branch-count-requires c κs = search needs

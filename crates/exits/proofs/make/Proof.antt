@@ -9,9 +9,6 @@ use borrow.Author.Needs.{needs}
 use Rattle.exits.proofs.make.Statement.{statement}
 use Rattle.exits.proofs.make.Tie as tie
 
-mask-of-requires : tie.Need-mask-of-requires
-mask-of-requires c κs = search needs
-
 rank-all-requires : tie.Need-rank-all-requires
 rank-all-requires c κs = search needs
 
@@ -28,33 +25,33 @@ same-length : tie.Need-same-length
 same-length c = search needs
 
 returns : tie.Need-returns
-returns c = let a = c .before .before .before .before .before .before .before .before .before .before .before .before .before .before .before .args in let K = people (a .t .now) in let E = held (a .t .now) in let n = c .before .before .before .node-total .ensures in
+returns c = let a = c .before .before .before .before .before .before .before .before .before .before .before .before .before .before .args in let K = people (a .t .now) in let E = held (a .t .now) in let n = c .before .before .before .node-total .ensures in
     let k = c .before .first-stuck .result in
     let M = a .marks .now in
-    let R = c .before .before .before .before .before .before .before .before .rank-all .last .1 .1 .1 .0 in
-    let B = c .before .before .before .before .before .before .before .before .rank-all .last .1 .1 .1 .1 .0 in
+    let R = c .before .before .before .before .before .before .before .before .rank-all .last .1 .1 .0 in
+    let B = c .before .before .before .before .before .before .before .before .rank-all .last .1 .1 .1 .0 in
     let e : k ≡ firstOr (length (E .nodes)) (keep (stuckBy M R) (below (length (E .nodes)))) = c .before .first-stuck .ensures ∙ ap (λ n. firstOr n (keep (stuckBy M R) (below n))) n in
-    let f = made-frozen K E (a .p) (c .before .before .before .before .before .before .before .before .before .before .before .before .before .before .before .pre .0 .promises) M R B (c .before .before .before .before .before .before .before .before .before .before .before .before .before .before .before .pre .1 .1 .1) (c .before .before .before .before .before .before .before .before .rank-all .ensures) k e (omega arith) in
+    let f = made-frozen K E (a .p) (c .before .before .before .before .before .before .before .before .before .before .before .before .before .before .pre .0 .promises) M R B (c .before .before .before .before .before .before .before .before .before .before .before .before .before .before .pre .1 .1 .1) (c .before .before .before .before .before .before .before .before .rank-all .ensures) k e (omega arith) in
     (answer-frozen _ k f, buffer-frozen _ k _ _ f (c .before .before .before .before .before .before .clear .ensures))
 
 put-rows-requires : tie.Need-put-rows-requires
-put-rows-requires c κs = let p = c .before .before .before .before .before .before .before .before .before .before .before .before .before .before .before .before .before .before .pre in let e = c .before .before .before .before .before .before .before .before .before .clear .ensures in let L = length (c .before .before .before .before .before .before .before .before .before .before .before .before .before .before .before .before .before .before .args .rows .now) in
+put-rows-requires c κs = let p = c .before .before .before .before .before .before .before .before .before .before .before .before .before .before .before .before .before .pre in let e = c .before .before .before .before .before .before .before .before .before .clear .ensures in let L = length (c .before .before .before .before .before .before .before .before .before .before .before .before .before .before .before .before .before .args .rows .now) in
     let l = cleared-long L _ e in
     ((omega (arith, c .before .before .before .before .before .before .node-total .ensures, p .0 .promises .limits .nodes), omega (arith, p .1 .0 .1)), cleared-is L _ e)
 
-array-read-t25 : tie.Need-array-read-t25
-array-read-t25 c = search needs
+array-read-t24 : tie.Need-array-read-t24
+array-read-t24 c = search needs
 
 same-length-2 : tie.Need-same-length-2
 same-length-2 c = search needs
 
 returns-2 : tie.Need-returns-2
-returns-2 c = let a = c .before .before .before .before .before .before .before .before .before .before .before .before .before .before .before .before .before .before .before .before .before .args in let K = people (a .t .now) in let E = held (a .t .now) in let n = c .before .before .before .before .before .before .before .before .before .node-total .ensures in
+returns-2 c = let a = c .before .before .before .before .before .before .before .before .before .before .before .before .before .before .before .before .before .before .before .before .args in let K = people (a .t .now) in let E = held (a .t .now) in let n = c .before .before .before .before .before .before .before .before .before .node-total .ensures in
     let k = c .before .before .before .before .before .before .before .first-stuck .result in
     let M = a .marks .now in
-    let R = c .before .before .before .before .before .before .before .before .before .before .before .before .before .before .rank-all .last .1 .1 .1 .0 in
-    let B = c .before .before .before .before .before .before .before .before .before .before .before .before .before .before .rank-all .last .1 .1 .1 .1 .0 in
-    let ok = c .before .before .before .before .before .before .before .before .before .before .before .before .before .before .before .before .before .before .before .before .before .pre .0 .promises in let mr = c .before .before .before .before .before .before .before .before .before .before .before .before .before .before .before .before .before .before .before .before .before .pre .1 .1 .1 in let rk = c .before .before .before .before .before .before .before .before .before .before .before .before .before .before .rank-all .ensures in
+    let R = c .before .before .before .before .before .before .before .before .before .before .before .before .before .before .rank-all .last .1 .1 .0 in
+    let B = c .before .before .before .before .before .before .before .before .before .before .before .before .before .before .rank-all .last .1 .1 .1 .0 in
+    let ok = c .before .before .before .before .before .before .before .before .before .before .before .before .before .before .before .before .before .before .before .before .pre .0 .promises in let mr = c .before .before .before .before .before .before .before .before .before .before .before .before .before .before .before .before .before .before .before .before .pre .1 .1 .1 in let rk = c .before .before .before .before .before .before .before .before .before .before .before .before .before .before .rank-all .ensures in
     let e : k ≡ firstOr (length (E .nodes)) (keep (stuckBy M R) (below (length (E .nodes)))) = c .before .before .before .before .before .before .before .first-stuck .ensures ∙ ap (λ n. firstOr n (keep (stuckBy M R) (below n))) n in
     let f = made-liquid K E (a .p) ok M R B mr rk k e (omega arith) in
     let l = cleared-long (length (a .rows .now)) _ (c .before .before .before .before .before .before .before .before .before .before .before .before .clear .ensures) in
@@ -67,7 +64,6 @@ pub make-spec : {M : Type 1} → statement M
 make-spec =
     tie.close
     (tie.spec
-    mask-of-requires
     rank-all-requires
     clear-requires
     node-total-requires
@@ -75,6 +71,6 @@ make-spec =
     same-length
     returns
     put-rows-requires
-    array-read-t25
+    array-read-t24
     same-length-2
     returns-2)

@@ -11,10 +11,10 @@ use Rattle.exits.proofs.rank_all.Statement.{statement}
 use Rattle.exits.proofs.rank_all.Tie as tie
 
 abbrev Inv-loop : tie.InvT-loop
-Inv-loop t p mask ranks₀ branches₀ x n₀ ranks branches n = (n ≤ length (held t .nodes)) × Ranks (people t) (held t) p ranks branches n
+Inv-loop t p ranks₀ branches₀ x n₀ ranks branches n = (n ≤ length (held t .nodes)) × Ranks (people t) (held t) p ranks branches n
 
 abbrev μ-loop : tie.MeasureT-loop
-μ-loop t p mask ranks₀ branches₀ x n₀ ranks branches n = n
+μ-loop t p ranks₀ branches₀ x n₀ ranks branches n = n
 
 node-total-requires : tie.Need-node-total-requires Inv-loop μ-loop
 node-total-requires c κs = search needs

@@ -13,16 +13,19 @@ use Rattle.owning.proofs.own.Tie as tie
 branch-signers-requires : tie.Need-branch-signers-requires
 branch-signers-requires c κs = search needs
 
+mask-of-requires : tie.Need-mask-of-requires
+mask-of-requires c κs = search needs
+
 returns : tie.Need-returns
-returns c = let a = c .before .before .before .before .args in let e = c .before .before .branch-signers .ensures in
-    sym (own-others (people (a .t .now)) (held (a .t .now)) (a .p) (a .n) (a .b) (c .before .before .before .before .pre .0 .promises .branch (a .b) (c .before .before .before .before .pre .1 .2) .signers) (λ z. c .before .if1 .taken (e ∙ z)) (λ z. c .if2 .taken (e ∙ z ∙ sym (c .before .before .before .before .pre .1 .0))))
+returns c = let a = c .before .before .before .before .before .args in let e = c .before .before .before .branch-signers .ensures in
+    sym (own-others (people (a .t .now)) (held (a .t .now)) (a .p) (a .n) (a .b) (c .before .before .before .before .before .pre .0 .promises .branch (a .b) (c .before .before .before .before .before .pre .1 .2) .signers) (λ z. c .before .before .if1 .taken (e ∙ z)) (λ z. c .if2 .taken (e ∙ z ∙ sym (c .before .mask-of .ensures))))
 
 branch-kind-requires : tie.Need-branch-kind-requires
 branch-kind-requires c κs = search needs
 
 returns-2 : tie.Need-returns-2
 returns-2 c = let a = c .before .before .before .before .before .args in let e = sym (c .before .before .before .branch-signers .ensures) in
-    sym (own-simple (people (a .t .now)) (held (a .t .now)) (a .p) (a .n) (a .b) (⊎-elim (λ w. inr (e ∙ w .1 .left ∙ c .before .before .before .before .before .pre .1 .0)) (λ w. inl (e ∙ w .left)) (c .before .before .if1 .came)) (omega arith))
+    sym (own-simple (people (a .t .now)) (held (a .t .now)) (a .p) (a .n) (a .b) (⊎-elim (λ w. inr (e ∙ w .2 .left ∙ w .1 .ensures)) (λ w. inl (e ∙ w .left)) (c .before .before .if1 .came)) (omega arith))
 
 returns-3 : tie.Need-returns-3
 returns-3 c = let a = c .before .before .before .before .before .before .args in
@@ -47,7 +50,7 @@ returns-4 c = let a = c .before .before .before .before .before .before .before 
     let E = held (a .t .now) in
     let e = sym (c .before .before .before .before .before .before .before .before .before .branch-signers .ensures) in
     let k : branchEntryAt E (a .b) .kind ≡ 2 = sym (c .before .before .before .before .before .before .before .branch-kind .ensures) ∙ c .before .before .before .before .before .if4 .left in
-    sym (own-another (people (a .t .now)) E (a .p) (a .n) (a .b) (p .1 .1) (⊎-elim (λ w. inr (e ∙ w .1 .left ∙ p .1 .0)) (λ w. inl (e ∙ w .left)) (c .before .before .before .before .before .before .before .before .if1 .came)) k
+    sym (own-another (people (a .t .now)) E (a .p) (a .n) (a .b) (p .1 .1) (⊎-elim (λ w. inr (e ∙ w .2 .left ∙ w .1 .ensures)) (λ w. inl (e ∙ w .left)) (c .before .before .before .before .before .before .before .before .if1 .came)) k
     (rw (sym (c .before .before .before .before .node-definition .ensures), sym (c .before .before .before .branch-first .ensures), sym (c .before .before .branch-secrets .ensures)) (sym (c .before .owns-all .ensures) ∙ not-true _ (c .if5 .taken))))
 
 branch-cond-requires : tie.Need-branch-cond-requires
@@ -64,7 +67,7 @@ returns-5 c = let a = c .before .before .before .before .before .before .before 
     let e = sym (c .before .before .before .before .before .before .before .before .before .before .before .branch-signers .ensures) in
     let k : branchEntryAt E (a .b) .kind ≡ 2 = sym (c .before .before .before .before .before .before .before .before .before .branch-kind .ensures) ∙ c .before .before .before .before .before .before .before .if4 .left in
     c .counts .ensures ∙ ap (λ c. countsAlways (condAt E c)) (c .before .branch-cond .ensures)
-    ∙ sym (own-reveal (people (a .t .now)) E (a .p) (a .n) (a .b) (p .1 .1) (⊎-elim (λ w. inr (e ∙ w .1 .left ∙ p .1 .0)) (λ w. inl (e ∙ w .left)) (c .before .before .before .before .before .before .before .before .before .before .if1 .came)) k
+    ∙ sym (own-reveal (people (a .t .now)) E (a .p) (a .n) (a .b) (p .1 .1) (⊎-elim (λ w. inr (e ∙ w .2 .left ∙ w .1 .ensures)) (λ w. inl (e ∙ w .left)) (c .before .before .before .before .before .before .before .before .before .before .if1 .came)) k
     (rw (sym (c .before .before .before .before .before .before .node-definition .ensures), sym (c .before .before .before .before .before .branch-first .ensures), sym (c .before .before .before .before .branch-secrets .ensures)) (sym (c .before .before .before .owns-all .ensures) ∙ not-false _ (c .before .before .if5 .left))))
 
 pub own-spec : {M : Type 1} → statement M
@@ -72,6 +75,7 @@ own-spec =
     tie.close
     (tie.spec
     branch-signers-requires
+    mask-of-requires
     returns
     branch-kind-requires
     returns-2

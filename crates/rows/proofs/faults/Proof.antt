@@ -12,10 +12,10 @@ use Rattle.rows.proofs.faults.Statement.{statement}
 use Rattle.rows.proofs.faults.Tie as tie
 
 abbrev Inv-loop : tie.InvT-loop
-Inv-loop t p mask ranks rows n x i₀ i = (i ≤ n) × (faulty (sheetIn t) p (rowsOf n rows) (i + 1) (drop i (rowsOf n rows)) ≡ faulty (sheetIn t) p (rowsOf n rows) 1 (rowsOf n rows))
+Inv-loop t p ranks rows n x i₀ i = (i ≤ n) × (faulty (sheetIn t) p (rowsOf n rows) (i + 1) (drop i (rowsOf n rows)) ≡ faulty (sheetIn t) p (rowsOf n rows) 1 (rowsOf n rows))
 
 abbrev μ-loop : tie.MeasureT-loop
-μ-loop t p mask ranks rows n x i₀ i = n - i
+μ-loop t p ranks rows n x i₀ i = n - i
 
 loop-holds : tie.Need-loop-holds Inv-loop μ-loop
 loop-holds c = (omega arith, refl)
@@ -57,8 +57,8 @@ wrong-requires : tie.Need-wrong-requires Inv-loop μ-loop
 wrong-requires c κs = let p = c .before .before .before .before .before .before .before .before .pre in let a = c .before .before .before .before .before .before .before .before .args in let i = c .before .before .before .before .loop .i in let h : i < a .n = omega arith in
     (p .0, ((p .1 .0, p .1 .1 .0 .each i h .has-node, row-branch (a .t .now) (a .rows .now) (a .n) (p .0) (p .1 .1 .0) i h), (p .1 .1 .1 .0 .most, p .1 .1 .1 .1)))
 
-add-t21 : tie.Need-add-t21 Inv-loop μ-loop
-add-t21 c = search needs
+add-t20 : tie.Need-add-t20 Inv-loop μ-loop
+add-t20 c = search needs
 
 returns : tie.Need-returns Inv-loop μ-loop
 returns c = let a = c .before .before .before .before .before .before .before .before .before .before .args in let p = c .before .before .before .before .before .before .before .before .before .before .pre in let l = c .before .before .before .before .before .before .loop in let h : l .i < a .n = omega arith in
@@ -99,7 +99,7 @@ faults-spec =
     mul-rank-2
     shared-slice-read-rank
     wrong-requires
-    add-t21
+    add-t20
     returns
     add-i
     loop-less

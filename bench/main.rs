@@ -39,10 +39,12 @@ const PARTIES: f64 = 0.5;
 // Requests
 // ---------------------------------------------------------------------------------------------
 
-/// Grows the largest sheet: 512 nodes of two branches each, all reached, an exit from each for all of
-/// 16 participants.
+/// Grows the largest sheet: 512 nodes of two branches each, all reached; where nobody signs the first
+/// one, an exit from each for all of 16 participants.
 struct Largest {
     text: String,
+    /// Who signs the two branches of each node.
+    signers: [&'static str; 2],
     /// How many reveals with a condition of 64 fields are left to place.
     long: usize,
     /// Digits that opening times may still take up, so that the sheet gets its length.
@@ -59,7 +61,8 @@ impl Largest {
     }
 
     /// Signers and opening time.
-    fn guard(&mut self, signers: &str) {
+    fn guard(&mut self, branch: usize) {
+        let signers = self.signers[branch];
         let digits = 1 + self.padding.min(9);
         self.padding -= digits - 1;
         self.text += &format!(",{signers},{}", "1".repeat(digits));
@@ -74,7 +77,7 @@ impl Largest {
             held -= 1;
         }
         self.text += ",c,2";
-        self.guard("0");
+        self.guard(0);
         if held == 0 {
             self.text += ",w,0";
         } else {
@@ -85,7 +88,7 @@ impl Largest {
                 self.contract(held / parts + usize::from(part < held % parts));
             }
         }
-        self.guard("65535");
+        self.guard(1);
         if long {
             self.text += &format!(",r,8,0,1,2,3,4,5,6,7,{}", Self::condition());
             self.contract(1);
@@ -94,9 +97,10 @@ impl Largest {
         }
     }
 
-    fn sheet(long: usize, padding: usize) -> String {
+    fn sheet(signers: [&'static str; 2], long: usize, padding: usize) -> String {
         let mut largest = Largest {
             text: "bitml,16,1\n".to_string(),
+            signers,
             long,
             padding,
         };
@@ -109,10 +113,11 @@ impl Largest {
 
 /// The largest sheet, at just 32,768 bytes.
 fn largest_sheet() -> String {
-    let fits = |long: &usize| Largest::sheet(*long, 0).len() <= model::SHEET_BYTES;
+    let signers = ["0", "65535"];
+    let fits = |long: &usize| Largest::sheet(signers, *long, 0).len() <= model::SHEET_BYTES;
     let long = (0..model::NODES).take_while(fits).last().unwrap_or(0);
-    let missing = model::SHEET_BYTES - Largest::sheet(long, 0).len();
-    let sheet = Largest::sheet(long, missing);
+    let missing = model::SHEET_BYTES - Largest::sheet(signers, long, 0).len();
+    let sheet = Largest::sheet(signers, long, missing);
     assert_eq!(sheet.len(), model::SHEET_BYTES);
     sheet
 }
@@ -158,6 +163,17 @@ fn mixed_events() -> String {
         )
     });
     to_the_end(text)
+}
+
+/// Firings that ask for the signatures of all of 16 participants, and signatures of the last one, refused
+/// for a secret that is not told and as given twice.
+fn sixteen_signers() -> String {
+    let zeros = ",0".repeat(16);
+    let sheet = format!("bitml,16,1\ndef{zeros},1,0,c,1,65535,0,r,1,0,t,c,0\n");
+    let signed: String = (0..16).map(|who| format!("sign,{who},0,0\n")).collect();
+    filled(format!("{sheet}play,1\n{signed}"), |round| {
+        ["fire,0,0\n", "sign,15,0,0\n"][round % 2].to_string()
+    })
 }
 
 /// Firings that a condition of 64 fields refuses, each after evaluating it whole.
@@ -339,6 +355,7 @@ fn requests() -> Vec<(String, usize, String)> {
     assert_eq!(rows.lines().count(), model::ROWS);
     let makeall = format!("{sheet}makeall\n");
     assert_eq!(lines(makeall.as_bytes()).0, 16 * (model::ROWS + 1));
+    let signed = Largest::sheet(["32768", "16384"], 0, 0);
     let smallest = format!("{}make,0\n", cases::T);
     let (few, all) = (library::ROWS, library::ALL_ROWS);
     let requests = vec![
@@ -346,6 +363,12 @@ fn requests() -> Vec<(String, usize, String)> {
         ("smallest, 8,192 places", all, smallest),
         ("largest sheet, make", few, make),
         ("largest sheet, makeall", all, makeall),
+        // Each branch is asked by its signer's number whether it is own.
+        (
+            "signed branches, makeall",
+            all,
+            format!("{signed}makeall\n"),
+        ),
         (
             "largest sheet, check",
             few,
@@ -370,6 +393,7 @@ fn requests() -> Vec<(String, usize, String)> {
             few,
             format!("{}play\n{}", cases::N, "wait,1\n".repeat(9_350)),
         ),
+        ("sixteen signers", few, sixteen_signers()),
         ("conditions of 64 fields", few, long_conditions()),
     ];
     let named =

@@ -446,7 +446,7 @@ impl Walk<'_> {
             self.entry(BRANCHES_AT, place, BRANCHES)?;
         self.branches += 1;
         must(rule!(node == number; BranchesOfAnyNode: true))?;
-        must((signers as u64) < limit!(Signers, 1 << self.sheet.participants))?;
+        must((signers as u64) < limit!(Signers, number!(Range, self.sheet.participants)))?;
         within(opens, 0, limit!(OpeningTime, TIME))?;
         let kind = rule!(kind; OtherKindsRenew: kind.min(3));
         if kind != 2 {

@@ -27,8 +27,7 @@ pub fn signs(signers: usize, p: usize) -> bool
     requires { ⌜ p < 16 ⌝ }
     ensures { λ r. ⌜ r ≡ eqb (signers / 2 ^ p % 2) 1 ⌝ }
 {
-    let m = mask_of(p);
-    signers & m != 0
+    signers & mask_of(p) != 0
 }
 
 // Each of the people who signs by signers has signed by mask.

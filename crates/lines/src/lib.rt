@@ -275,6 +275,7 @@ fn after_line_one(s: &[u8], k: usize, n: usize, at: usize, t: &mut [usize]) -> G
     ensures { λ r. ⌜ (answered r (now (t .exit)) ≡ sheetFrom (now (s .entry)) (Counts k n at)) × whenAccepted (now (s .entry)) r (now (t .exit)) ⌝ }
 {
     let z = Limits {
+        // one more than the numbers of all K together
         all: 2 * mask_of(k - 1),
         people: k,
         defs: n,

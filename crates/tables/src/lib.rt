@@ -115,8 +115,9 @@ pub struct Head {
     pub opens: usize,
 }
 
-// The number that stands for each participant in a signers field; the field is the sum of those who must sign.
-const MASKS: [usize; Sheet::PEOPLE] = [
+// The numbers that stand for participants 0 to 15 in a signers field, which is the sum of those who must sign. Two bytes each: the table is
+// laid out wherever it is looked up.
+const MASKS: [u16; Sheet::PEOPLE] = [
     1,
     2,
     4,
@@ -135,12 +136,12 @@ const MASKS: [usize; Sheet::PEOPLE] = [
     32768,
 ];
 
-// The number of participant p.
+// The number that stands for participant p.
 pub fn mask_of(p: usize) -> usize
     requires { ⌜ p < 16 ⌝ }
     ensures { λ r. ⌜ r ≡ 2 ^ p ⌝ }
 {
-    MASKS[p]
+    MASKS[p] as usize
 }
 
 // A branch's action: its kind, the number after its letter or the node of its contract, and of an `r` where its secrets are

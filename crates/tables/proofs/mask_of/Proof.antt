@@ -20,11 +20,11 @@ mul-result c = search needs
 array-read-result : tie.Need-array-read-result
 array-read-result c = search needs
 
-cast-result : tie.Need-cast-result
-cast-result c = record { fits = subst (λ n. n < 2 ^ 64) (sym (rule (c .args .p) (search needs))) (pow-lt {i = c .args .p} {j = 64} (omega arith)) }
-
 returns : tie.Need-returns
 returns c = rule (c .args .p) (search needs)
+
+cast-result : tie.Need-cast-result
+cast-result c = record { fits = subst (λ n. n < 2 ^ 64) (sym (rule (c .args .p) (search needs))) (pow-lt {i = c .args .p} {j = 64} (omega arith)) }
 
 pub mask-of-spec : {M : Type 1} → statement M
 mask-of-spec = tie.close (tie.spec mul-result array-read-result cast-result returns)

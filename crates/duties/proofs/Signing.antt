@@ -1,30 +1,22 @@
 -- Who signs, by a participant's number; the loop over signers; what adding a clear bit does. Assumes nothing.
-use Prim.Native.Nat.{ℕ, zero, suc, _+_, _*_, _-_, _/_, _%_, _^_, _≤_, _<_}
+use Prim.Native.Nat.{ℕ, zero, suc, min, _+_, _*_, _-_, _/_, _%_, _^_, _≤_, _<_}
 use mathlib.Core.Bool.{Bool, true, false, true≢false, not}
 use mathlib.Core.Path.{_≡_, refl, sym, ap, ap₂, _∙_}
-use mathlib.Core.Logic.{_⊎_, ⊎-elim}
+use mathlib.Core.Logic.{_⊎_, inl, inr, ⊎-elim}
 use native.Mathlib.Omega.{arith}
 use native.Mathlib.Numerals.{one-add}
-use native.Mathlib.Nat.{pow-zero, pow-succ'}
+use native.Mathlib.Nat.{min-le-left, pow-zero, pow-succ'}
 use lib.Dec.{eqb}
-use lib.Bits.{bitAnd, and-high}
+use lib.Bits.{bitAnd, and-step, and-le-l, and-high}
 use lib.Pow.{pow-pos}
-use borrow.Author.Tests.{eq-eqb, ne-eqb, le-leb, lt-leb}
-use Rattle.bitml.specs.Lists.{_⇒_, ask, every, upFrom}
-use Rattle.bitml.proofs.Lists.{and-false, and-true, imp-i, ask-no, ask-yes}
+use borrow.Author.Tests.{eq-eqb, ne-eqb, le-leb, lt-leb, not-true, not-false}
+use Rattle.bitml.specs.Lists.{_&_, _⇒_, ask, every, upFrom}
+use Rattle.bitml.proofs.Lists.{and-false, and-true, ask-no, ask-yes}
 use Rattle.bitml.proofs.Counting.{up-one, up-end}
 use Rattle.sheets.proofs.Bits.{bit, bit-suc, bit-zero, two}
 use Rattle.tables.specs.Entries.{Entries}
 use Rattle.tables.specs.SheetOf.{branchEntryAt}
 use Rattle.duties.specs.Duties.{covers, notYet}
-
-imp-false : (a b : Bool) → a ≡ true → b ≡ false → (a ⇒ b) ≡ false
-unfolding _⇒_
-imp-false a b e q = rw (e, q)
-
-imp-none : (a b : Bool) → a ≡ false → (a ⇒ b) ≡ true
-unfolding _⇒_
-imp-none a b e = rw e
 
 -- ---- who signs
 
@@ -46,6 +38,29 @@ module _ (x p : ℕ) where
 
 -- ---- all signers signed
 
+-- the low digit of what x has over y, and what stands above it
+module _ (x y : ℕ) where
+  rest-above : (x - bitAnd x y) / 2 ≡ x / 2 - bitAnd (x / 2) (y / 2)
+  rest-above = let s = and-step x y in let l = and-le-l (x / 2) (y / 2) in let m = min-le-left (x % 2) (y % 2) in omega arith
+
+  rest-low : (x - bitAnd x y) % 2 ≡ x % 2 - min (x % 2) (y % 2)
+  rest-low = let s = and-step x y in let l = and-le-l (x / 2) (y / 2) in let m = min-le-left (x % 2) (y % 2) in omega arith
+
+-- it has the bits of x that y lacks
+rest-bit : (x y i : ℕ) → bit (x - bitAnd x y) i ≡ bit x i - min (bit x i) (bit y i)
+rest-bit x y zero = rw (bit-zero, bit-zero, bit-zero) (rest-low x y)
+rest-bit x y (suc i) = rw (bit-suc, bit-suc, bit-suc, rest-above x y) (rest-bit (x / 2) (y / 2) i)
+
+over-digit : (a b : ℕ) → (a ≡ 0) ⊎ (a ≡ 1) → (b ≡ 0) ⊎ (b ≡ 1) → eqb (a - min a b) 1 ≡ not (eqb a 1 ⇒ eqb b 1)
+unfolding _⇒_
+over-digit a b (inl p) (inl q) = rw (p, q) refl
+over-digit a b (inl p) (inr q) = rw (p, q) refl
+over-digit a b (inr p) (inl q) = rw (p, q) refl
+over-digit a b (inr p) (inr q) = rw (p, q) refl
+
+missing-is : (x y i : ℕ) → eqb (bit (x - bitAnd x y) i) 1 ≡ not (eqb (bit x i) 1 ⇒ eqb (bit y i) 1)
+missing-is x y i = ap (λ b. eqb b 1) (rest-bit x y i) ∙ over-digit (bit x i) (bit y i) (two (x / 2 ^ i)) (two (y / 2 ^ i))
+
 -- what is left to look at after i participants
 unfoldable pub leftover : ℕ → ℕ → ℕ → ℕ → Bool
 leftover K x y i = every (λ p. eqb (x / 2 ^ p % 2) 1 ⇒ eqb (y / 2 ^ p % 2) 1) (upFrom i (K - i))
@@ -56,14 +71,15 @@ module _ (K x y : ℕ) where
   cover-start = ap (λ n. every (λ p. eqb (x / 2 ^ p % 2) 1 ⇒ eqb (y / 2 ^ p % 2) 1) (upFrom 0 n)) (let z : K - 0 ≡ K = omega arith in z)
 
   module _ (i : ℕ) (h : i < K) where
-    pub cover-bad : eqb (bit x i) 1 ≡ true → eqb (bit y i) 1 ≡ false → leftover K x y i ≡ false
+    first : leftover K x y i ≡ ((eqb (bit x i) 1 ⇒ eqb (bit y i) 1) & leftover K x y (i + 1))
     unfolding leftover
-    cover-bad a b = ap (every (λ p. eqb (x / 2 ^ p % 2) 1 ⇒ eqb (y / 2 ^ p % 2) 1)) (up-one i K h) ∙ and-false _ _ (imp-false _ _ a b)
+    first = ap (every (λ p. eqb (x / 2 ^ p % 2) 1 ⇒ eqb (y / 2 ^ p % 2) 1)) (up-one i K h)
 
-    pub cover-good : (eqb (bit x i) 1 ≡ false) ⊎ (eqb (bit y i) 1 ≡ true) → leftover K x y i ≡ leftover K x y (i + 1)
-    unfolding leftover
-    cover-good o = ap (every (λ p. eqb (x / 2 ^ p % 2) 1 ⇒ eqb (y / 2 ^ p % 2) 1)) (up-one i K h)
-        ∙ and-true _ _ (⊎-elim (imp-none _ _) (imp-i _ _) o)
+    pub cover-bad : eqb (bit (x - bitAnd x y) i) 1 ≡ true → leftover K x y i ≡ false
+    cover-bad e = first ∙ and-false _ _ (not-true _ (sym (missing-is x y i) ∙ e))
+
+    pub cover-good : eqb (bit (x - bitAnd x y) i) 1 ≡ false → leftover K x y i ≡ leftover K x y (i + 1)
+    cover-good e = first ∙ and-true _ _ (not-false _ (sym (missing-is x y i) ∙ e))
 
   pub cover-end : (i : ℕ) → K ≤ i → leftover K x y i ≡ true
   unfolding leftover

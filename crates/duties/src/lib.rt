@@ -35,12 +35,12 @@ pub fn all_signed(people: usize, signers: usize, mask: usize) -> bool
     requires { ⌜ people ≤ 16 ⌝ }
     ensures { λ r. ⌜ r ≡ covers people signers mask ⌝ }
 {
+    // those who have not
+    let missing = signers - (signers & mask);
     let mut i = 0;
     while i < people {
-        if signs(signers, i) {
-            if !signs(mask, i) {
-                return false;
-            }
+        if signs(missing, i) {
+            return false;
         }
         i += 1;
     }

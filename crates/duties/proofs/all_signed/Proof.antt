@@ -1,19 +1,21 @@
 use native.Mathlib.Omega.{arith}
 use mathlib.Core.Path.{_≡_, sym, _∙_}
-use mathlib.Core.Logic.{inl, inr, ⊎-elim}
 use Prim.Native.Nat.{_-_, _≤_}
+use lib.Bits.{and-le-l}
 use borrow.Author.Needs.{needs}
-use borrow.Author.Tests.{not-true, not-false}
 use Rattle.duties.specs.Duties.{covers}
 use Rattle.duties.proofs.Signing.{leftover, cover-start, cover-bad, cover-good, cover-end}
 use Rattle.duties.proofs.all_signed.Statement.{statement}
 use Rattle.duties.proofs.all_signed.Tie as tie
 
 abbrev Inv-loop : tie.InvT-loop
-Inv-loop people signers mask i₀ i = (i ≤ people) × (leftover people signers mask i ≡ covers people signers mask)
+Inv-loop people signers mask missing i₀ i = (i ≤ people) × (leftover people signers mask i ≡ covers people signers mask)
 
 abbrev μ-loop : tie.MeasureT-loop
-μ-loop people signers mask i₀ i = people - i
+μ-loop people signers mask missing i₀ i = people - i
+
+sub-missing : tie.Need-sub-missing Inv-loop μ-loop
+sub-missing c = let a = c .args in and-le-l (a .signers) (a .mask)
 
 loop-holds : tie.Need-loop-holds Inv-loop μ-loop
 loop-holds c = let a = c .args in (omega arith, cover-start (a .people) (a .signers) (a .mask))
@@ -21,12 +23,9 @@ loop-holds c = let a = c .args in (omega arith, cover-start (a .people) (a .sign
 signs-requires : tie.Need-signs-requires Inv-loop μ-loop
 signs-requires c κs = search needs
 
-signs-requires-2 : tie.Need-signs-requires-2 Inv-loop μ-loop
-signs-requires-2 c κs = search needs
-
 returns : tie.Need-returns Inv-loop μ-loop
-returns c = let a = c .before .before .before .before .before .before .args in let l = c .before .before .before .before .before .loop in
-    sym (cover-bad (a .people) (a .signers) (a .mask) (l .i) (omega arith) (sym (c .before .before .before .signs .ensures) ∙ c .before .before .if1 .taken) (sym (c .before .signs2 .ensures) ∙ not-true _ (c .if2 .taken))) ∙ l .inv .1
+returns c = let a = c .before .before .before .before .args in let l = c .before .before .before .loop in
+    sym (cover-bad (a .people) (a .signers) (a .mask) (l .i) (omega arith) (sym (c .before .signs .ensures) ∙ c .if1 .taken)) ∙ l .inv .1
 
 add-i : tie.Need-add-i Inv-loop μ-loop
 add-i c = search needs
@@ -35,15 +34,12 @@ loop-less : tie.Need-loop-less Inv-loop μ-loop
 loop-less c = search needs
 
 loop-again : tie.Need-loop-again Inv-loop μ-loop
-loop-again c = let a = c .before .before .before .before .args in let l = c .before .before .before .loop in (
-  omega arith,
-  sym (cover-good (a .people) (a .signers) (a .mask) (l .i) (omega arith)
-      (⊎-elim (λ w. inr (sym (w .1 .ensures) ∙ not-false _ (w .2 .left))) (λ w. inl (sym (c .before .signs .ensures) ∙ w .left)) (c .if1 .came))) ∙ l .inv .1,
-)
+loop-again c = let a = c .before .before .before .before .args in let l = c .before .before .before .loop in
+    (omega arith, sym (cover-good (a .people) (a .signers) (a .mask) (l .i) (omega arith) (sym (c .before .signs .ensures) ∙ c .if1 .left)) ∙ l .inv .1)
 
 returns-2 : tie.Need-returns-2 Inv-loop μ-loop
 returns-2 c = let a = c .before .before .args in let l = c .before .loop in sym (cover-end (a .people) (a .signers) (a .mask) (l .i) (omega arith)) ∙ l .inv .1
 
 pub all-signed-spec : {M : Type 1} → statement M
 all-signed-spec =
-    tie.close (tie.spec Inv-loop μ-loop loop-holds signs-requires signs-requires-2 returns add-i loop-less loop-again returns-2)
+    tie.close (tie.spec Inv-loop μ-loop sub-missing loop-holds signs-requires returns add-i loop-less loop-again returns-2)

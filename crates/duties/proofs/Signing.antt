@@ -38,18 +38,16 @@ module _ (x p : ℕ) where
 
 -- ---- all signers signed
 
--- the low digit of what x has over y, and what stands above it
-module _ (x y : ℕ) where
-  rest-above : (x - bitAnd x y) / 2 ≡ x / 2 - bitAnd (x / 2) (y / 2)
-  rest-above = let s = and-step x y in let l = and-le-l (x / 2) (y / 2) in let m = min-le-left (x % 2) (y % 2) in omega arith
-
-  rest-low : (x - bitAnd x y) % 2 ≡ x % 2 - min (x % 2) (y % 2)
-  rest-low = let s = and-step x y in let l = and-le-l (x / 2) (y / 2) in let m = min-le-left (x % 2) (y % 2) in omega arith
+-- what x has over y, by its low digit and what stands above
+rest-step : (x y : ℕ) → x - bitAnd x y ≡ (x / 2 - bitAnd (x / 2) (y / 2)) * 2 + (x % 2 - min (x % 2) (y % 2))
+rest-step x y = let s = and-step x y in let l = and-le-l (x / 2) (y / 2) in let m = min-le-left (x % 2) (y % 2) in omega arith
 
 -- it has the bits of x that y lacks
 rest-bit : (x y i : ℕ) → bit (x - bitAnd x y) i ≡ bit x i - min (bit x i) (bit y i)
-rest-bit x y zero = rw (bit-zero, bit-zero, bit-zero) (rest-low x y)
-rest-bit x y (suc i) = rw (bit-suc, bit-suc, bit-suc, rest-above x y) (rest-bit (x / 2) (y / 2) i)
+rest-bit x y zero = rw (bit-zero, bit-zero, bit-zero) (let s = rest-step x y in omega arith)
+rest-bit x y (suc i) =
+    let above : (x - bitAnd x y) / 2 ≡ x / 2 - bitAnd (x / 2) (y / 2) = let s = rest-step x y in omega arith in
+    rw (bit-suc, bit-suc, bit-suc, above) (rest-bit (x / 2) (y / 2) i)
 
 over-digit : (a b : ℕ) → (a ≡ 0) ⊎ (a ≡ 1) → (b ≡ 0) ⊎ (b ≡ 1) → eqb (a - min a b) 1 ≡ not (eqb a 1 ⇒ eqb b 1)
 unfolding _⇒_

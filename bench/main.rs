@@ -34,6 +34,8 @@ const RUNS: usize = 31;
 const WRITING: f64 = 3.0;
 /// `makeall` for 16 participants takes less than this part of 16 calls of `make`.
 const PARTIES: f64 = 0.5;
+/// `why` may take so many times as long as `make` on the same sheet.
+const WHY: f64 = 2.0;
 
 // ---------------------------------------------------------------------------------------------
 // Requests
@@ -338,6 +340,62 @@ fn requests_of_conditions() -> Vec<(String, usize, String)> {
     requests
 }
 
+/// 511 steps, 1,024 branches and about as many bytes as fit: each node pays, or leads on by a reveal whose
+/// condition names a secret; the last only renews.
+fn longest_way() -> String {
+    let node = "c,2,0,4294967295,w,0,0,4294967295,";
+    let reveals = format!("{node}r,1,0,lt,v,0,k,1000000000,").repeat(model::DEPTH - 1);
+    let head = "def,2100000000000000,1,0,";
+    let definitions: String = (1..16)
+        .map(|next| format!("{head}{reveals}{node}g,{next}\n"))
+        .collect();
+    let sheet = format!("bitml,1,16\n{definitions}{head}{reveals}c,2,0,0,g,0,0,0,g,15\n");
+    assert!(sheet.len() <= model::SHEET_BYTES);
+    sheet
+}
+
+/// 32 definitions of 32 branches: a root and the node that it leads to, each of which pays and renews as
+/// earlier ones.  Only that node of each definition renews as the next one, by its last branch, and only
+/// that of the last one does not pay.
+fn most_renewals() -> String {
+    let renewals = |definition: usize, count: usize| -> String {
+        let back = |place: usize| format!(",0,0,g,{}", place * definition / count);
+        (0..count).map(back).collect()
+    };
+    let definition = |number: usize| {
+        let (root, back) = (renewals(number, 14), renewals(number, 14));
+        let (pays, next) = match number {
+            31 => (",0,0,g,0".to_string(), 0),
+            _ => (",0,0,w,0".to_string(), number + 1),
+        };
+        let node = format!("c,16{pays}{back},0,0,g,{next}");
+        format!("def,1,0,c,16,0,0,w,0{root},0,0,s,1,1,{node}\n")
+    };
+    let definitions: String = (0..32).map(definition).collect();
+    format!("bitml,1,32\n{definitions}")
+}
+
+/// Sheets on which `why` has the most to do, and how many lines it then prints.
+fn sheets_to_explain() -> [(&'static str, String, usize); 2] {
+    [
+        ("longest way", longest_way(), 1 + 511 + 2),
+        ("most renewals", most_renewals(), 1 + 63 + 16),
+    ]
+}
+
+/// `why` and `make` on those sheets.
+fn requests_of_why() -> Vec<(String, usize, String)> {
+    let mut requests = Vec::new();
+    for (name, sheet, due) in sheets_to_explain() {
+        let why = format!("{sheet}why,0\n");
+        assert_eq!(lines(why.as_bytes()).0, due, "{name}");
+        requests.push((format!("{name}, why"), library::ROWS, why));
+        let make = format!("{sheet}make,0\n");
+        requests.push((format!("{name}, make"), library::ROWS, make));
+    }
+    requests
+}
+
 /// The rows that the model makes.
 fn made_rows(make: &str) -> String {
     let (reply, _) = model::judge(make.as_bytes());
@@ -363,6 +421,7 @@ fn requests() -> Vec<(String, usize, String)> {
         ("smallest, 8,192 places", all, smallest),
         ("largest sheet, make", few, make),
         ("largest sheet, makeall", all, makeall),
+        ("largest sheet, why", few, format!("{sheet}why,0\n")),
         // Each branch is asked by its signer's number whether it is own.
         (
             "signed branches, makeall",
@@ -399,6 +458,7 @@ fn requests() -> Vec<(String, usize, String)> {
     let named =
         |(name, places, request): (&str, usize, String)| (name.to_string(), places, request);
     let requests = requests.into_iter().map(named);
+    let requests = requests.chain(requests_of_why());
     requests.chain(requests_of_conditions()).collect()
 }
 
@@ -614,6 +674,7 @@ fn bench() -> Result<(), String> {
         );
     }
     let parties = bench_parties();
+    let why = bench_why();
     let tables = bench_tables();
     // What the ratios mean, so that nobody reads too much into them.
     println!(
@@ -626,7 +687,7 @@ fn bench() -> Result<(), String> {
     if !others.is_empty() {
         return Err(format!("other answers: {}", others.join("; ")));
     }
-    parties.and(tables)
+    parties.and(why).and(tables)
 }
 
 /// What is left of the medians without what the request takes before it is judged.
@@ -690,6 +751,37 @@ fn bench_parties() -> Result<(), String> {
     ))
 }
 
+/// `why` on the sheets on which it has the most to do, and `make` on the same, both by the library.
+fn bench_why() -> Result<(), String> {
+    let mut slow = Vec::new();
+    for (name, sheet, _) in sheets_to_explain() {
+        let (why, make) = (format!("{sheet}why,0\n"), format!("{sheet}make,0\n"));
+        let mut buffers = Buffers::new(library::ROWS);
+        let (mut explained, mut made) = (Vec::new(), Vec::new());
+        let start = Instant::now();
+        while start.elapsed() < TIME || made.len() < RUNS {
+            for (request, times) in [(&why, &mut explained), (&make, &mut made)] {
+                let request = black_box(request.as_bytes());
+                let reply = timed(times, || buffers.by_library(request));
+                if reply.length == 0 {
+                    return Err(format!("{name}: {reply:?}"));
+                }
+            }
+        }
+        let (explained, made) = (median(explained), median(made));
+        let ratio = explained / made;
+        println!("{name}: why {explained:.1}, make {made:.1}, ratio {ratio:.2}");
+        if ratio > WHY {
+            slow.push(name);
+        }
+    }
+    if slow.is_empty() {
+        return Ok(());
+    }
+    let slow = slow.join(", ");
+    Err(format!("over {WHY} times as long as `make`: why, {slow}"))
+}
+
 /// Sheets as tables; the largest ones are written in at most three times what reading them takes.
 fn bench_tables() -> Result<(), String> {
     println!(
@@ -730,7 +822,7 @@ fn bench_tables() -> Result<(), String> {
 fn on_stack(kib: usize) -> bool {
     // The requests are made on the main thread: the model that helps to make them needs stack too.
     let (mut requests, sheets) = (requests(), sheets_to_write());
-    for word in ["make,0", "makeall", "check,0", "play,1"] {
+    for word in ["make,0", "makeall", "why,0", "check,0", "play,1"] {
         let request = format!("{}{word}\n", deepest());
         requests.push((word.to_string(), library::ALL_ROWS, request));
     }

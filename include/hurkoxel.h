@@ -61,10 +61,11 @@ typedef struct {
  * Answered: text[0] to text[length - 1] are what the program `judge` prints, with LF after each line and no zero at
  * the end; every byte from text[length] on is zero. After `make` of a liquid sheet the rows stand at rows[0] and on,
  * by rising node, as many as the `liquid` line says; after an accepted `check` they are the rows that were given, in
- * their order. Every row past them is zero. After `frozen` and after a play all rows are zero. After `makeall` the rows
- * of participant p stand from rows[512 * p] on, as many as its `liquid` line says, and up to rows[512 * p + 511] the
- * others are zero; all 512 are zero where its line is `frozen`, and so are those past the last participant's. An event
- * of a play that is refused (14 to 19) has a line of its own in the text; the request is answered all the same.
+ * their order. Every row past them is zero. After `frozen`, after `why` and after a play all rows are zero. After
+ * `makeall` the rows of participant p stand from rows[512 * p] on, as many as its `liquid` line says, and up to
+ * rows[512 * p + 511] the others are zero; all 512 are zero where its line is `frozen`, and so are those past the last
+ * participant's. An event of a play that is refused (14 to 19) has a line of its own in the text; the request is
+ * answered all the same.
  *
  * Refused: every row and every byte of text is zero, whatever the lengths.
  *

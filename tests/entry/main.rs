@@ -10,8 +10,8 @@
 //! The same memory is lent for every request and never cleared; before some calls it is filled with
 //! garbage, and what lies outside the lent parts must stay.  Of each answer the reply, every byte of
 //! text and every row is compared; a `makeall` also with the library's own answers to `make` for one
-//! participant after the other.  The rows of a `make` are given back to `check`, in order and in another
-//! order.  Every number from 1 to 19 must occur, and 21.  sheets.rs does the same for sheets as tables,
+//! participant after the other, and the first line of a `why` with the last of the library's own `make`.
+//! The rows of a `make` are given back to `check`, in order and in another order.  Every number from 1 to 19 must occur, and 21.  sheets.rs does the same for sheets as tables,
 //! for a tenth of COUNT texts.
 
 #[path = "../model/buffers.rs"]
@@ -105,6 +105,14 @@ fn row((node, branch, rank): &model::Place) -> Row {
 fn asks_all(request: &[u8]) -> bool {
     let mut lines = request.split(|byte| *byte == b'\n');
     lines.any(|line| line.starts_with(b"makeall"))
+}
+
+/// The sheet and the participant of a request that ends in a line `why`.
+fn why_asked(request: &[u8]) -> Option<(&[u8], &[u8])> {
+    let lines = request.strip_suffix(b"\n")?;
+    let last = lines.iter().rposition(|byte| *byte == b'\n')? + 1;
+    let participant = lines[last..].strip_prefix(b"why,")?;
+    Some((&lines[..last], participant))
 }
 
 /// The first place at which a buffer is not `due` with zeros past it.
@@ -210,6 +218,8 @@ fn comparison_can_fail() -> Result<usize, String> {
         format!("{t}makeall\n"),
         format!("{}makeall\n", cases::M),
         format!("{}makeall\n", cases::D),
+        format!("{t}why,0\n"),
+        format!("{}why,0\n", cases::M),
         "bitml,2".to_string(),
     ];
     let mut tried = 0;
@@ -377,6 +387,11 @@ struct Counts {
     /// Answers to `makeall`; those that are liquid for some and frozen for others.
     parties: usize,
     mixed: usize,
+    /// Answers to `why`; those that are frozen, those with two steps or more, and the most steps.
+    whys: usize,
+    frozen_whys: usize,
+    runs: usize,
+    longest_run: usize,
     plays: usize,
     taken: usize,
     most_rows: usize,
@@ -385,7 +400,8 @@ struct Counts {
 
 impl Counts {
     /// Counts an answer by what the library gave back.
-    fn add(&mut self, all: bool, parts: &Parts, reply: &Reply, text: &str) {
+    fn add(&mut self, request: &[u8], parts: &Parts, reply: &Reply, text: &str) {
+        let all = asks_all(request);
         self.calls += 1;
         self.longest_text = self.longest_text.max(text.len());
         let short = parts.rows.len() < library::ROWS || parts.text.len() < library::TEXT;
@@ -396,10 +412,13 @@ impl Counts {
             self.few += usize::from(nowhere && !short);
             return;
         }
+        self.long += usize::from(!all && parts.rows.len() >= library::ALL_ROWS);
+        if why_asked(request).is_some() {
+            return self.add_why(text);
+        }
         let mixed = text.contains("liquid,") && text.contains("frozen,");
         self.mixed += usize::from(mixed);
         self.parties += usize::from(all);
-        self.long += usize::from(!all && parts.rows.len() >= library::ALL_ROWS);
         let rows = text.lines().filter(|line| line.starts_with("row,")).count();
         self.most_rows = self.most_rows.max(rows);
         for line in text.lines() {
@@ -414,6 +433,17 @@ impl Counts {
                 _ => {}
             }
         }
+    }
+
+    fn add_why(&mut self, text: &str) {
+        let steps = text
+            .lines()
+            .filter(|line| line.starts_with("step,"))
+            .count();
+        self.whys += 1;
+        self.frozen_whys += usize::from(text.starts_with("frozen,"));
+        self.runs += usize::from(steps >= 2);
+        self.longest_run = self.longest_run.max(steps);
     }
 
     fn times(&self, number: usize) -> usize {
@@ -434,6 +464,9 @@ impl Counts {
             ("frozen", self.frozen),
             ("all parties", self.parties),
             ("some parties liquid", self.mixed),
+            ("why", self.whys),
+            ("why of a liquid sheet", self.whys - self.frozen_whys),
+            ("a run of two steps", self.runs),
             ("a play", self.plays),
             ("taken", self.taken),
             ("short buffers", self.short),
@@ -539,7 +572,7 @@ impl Test {
             return None;
         }
         let printed = String::from_utf8_lossy(&text[..reply.length]).to_string();
-        self.counts.add(asks_all(request), parts, &reply, &printed);
+        self.counts.add(request, parts, &reply, &printed);
         if reply.number == 0 {
             return Some(printed);
         }
@@ -565,7 +598,33 @@ impl Test {
         if let Some(sheet) = request.strip_suffix(b"makeall\n") {
             self.one_by_one(name, sheet, &printed, &parts);
         }
+        if let Some((sheet, participant)) = why_asked(request) {
+            self.as_made(name, sheet, participant, &printed);
+        }
         Some(printed)
+    }
+
+    /// The first line that `why` printed is the last of the library's own answer to `make`, of a liquid
+    /// sheet nothing follows it, and whatever the rows held they are zero.
+    fn as_made(&mut self, name: &str, sheet: &[u8], participant: &[u8], printed: &str) {
+        if printed.starts_with("refused") {
+            return;
+        }
+        let why = [sheet, b"why,", participant, b"\n"].concat();
+        let make = [sheet, b"make,", participant, b"\n"].concat();
+        let reply = library::judge(&make, &mut self.rows, &mut self.text);
+        let made = String::from_utf8_lossy(&self.text[..reply.length]).to_string();
+        let last = made.lines().last().unwrap_or_default();
+        let (first, rest) = printed.split_once('\n').unwrap_or_default();
+        if first != last || !rest.is_empty() && first.starts_with("liquid") {
+            self.failed(name, "the last line of `make`", &why, last, printed);
+        }
+        self.memory.fill_with_garbage(&mut self.random);
+        let rows = &mut self.memory.rows;
+        let _ = library::judge(&why, rows, &mut self.text);
+        if rows.iter().any(|row| *row != Row::default()) {
+            self.failed(name, "rows after `why`", &why, "zeros", printed);
+        }
     }
 
     /// What `makeall` printed are the library's own answers to `make` for one participant after the other,
@@ -644,6 +703,10 @@ impl Test {
                     let last = printed.lines().last().map(str::to_string);
                     self.compare(name, request.as_bytes(), verdict, last);
                 }
+                let request = format!("{sheet}why,{participant}\n");
+                let printed = self.request(name, request.as_bytes());
+                let first = printed.and_then(|lines| lines.lines().next().map(str::to_string));
+                self.compare(name, request.as_bytes(), verdict, first);
             }
             // All of them at once.
             let request = format!("{sheet}makeall\n");
@@ -654,9 +717,11 @@ impl Test {
             });
             self.compare(name, request.as_bytes(), &expected, last);
             // One participant more than there are verdicts.
-            let request = format!("{sheet}make,{}\n", expected.lines().count());
             let line = sheet.lines().count() + 1;
-            self.known(name, request.as_bytes(), &format!("refused,6,{line},2\n"));
+            for word in ["make", "why"] {
+                let request = format!("{sheet}{word},{}\n", expected.lines().count());
+                self.known(name, request.as_bytes(), &format!("refused,6,{line},2\n"));
+            }
         }
         Ok(sheets.len())
     }
@@ -730,6 +795,10 @@ impl Test {
         println!(
             "  all parties {}, some of them liquid {}, too few rows for them {}",
             counts.parties, counts.mixed, counts.few
+        );
+        println!(
+            "  why {}, frozen {}, with two steps or more {}, the longest run {}",
+            counts.whys, counts.frozen_whys, counts.runs, counts.longest_run
         );
         println!(
             "  {} calls, {} with short buffers, {} with long ones, {} after garbage; most rows {}, longest text {}",

@@ -47,6 +47,8 @@ struct Requests {
     /// `makeall`, and what `make` gives for one participant after the other.
     all: String,
     parties: String,
+    /// `why`, whose answer is that of `check`: the sheet is liquid.
+    why: String,
     /// With the rows that `make` gives.
     check: String,
     checked: String,
@@ -70,6 +72,7 @@ impl Requests {
             made: made[0].clone(),
             all: format!("{sheet}makeall\n"),
             parties: made.concat(),
+            why: format!("{sheet}why,0\n"),
             checked: format!("{verdict}\n"),
             row: rows.lines().take(1).map(|row| format!("{row}\n")).collect(),
             twice: format!("refused,10,{},0\n", check.lines().count() + 1),
@@ -246,9 +249,10 @@ impl Test {
         let (start, rest) = play.split_at(PAGE + 1);
         let (middle, end) = rest.split_at(rest.len() - 1);
         let twice = format!("{}{}", r.check, r.row);
-        let cases: [(&[&str], &str); 11] = [
+        let cases: [(&[&str], &str); 13] = [
             (&[&r.make], &r.made),
             (&[&r.all], &r.parties),
+            (&[&r.why], &r.checked),
             (&[&r.check], &r.checked),
             (&[&twice], &r.twice),
             (&[&play], &played),
@@ -256,6 +260,7 @@ impl Test {
             (&[&r.sheet, "make,0\n"], &r.made),
             (&[&r.sheet, "make", ",0", "\n"], &r.made),
             (&[&r.sheet, "make", "all", "\n"], &r.parties),
+            (&[&r.sheet, "wh", "y,0", "\n"], &r.checked),
             (&[&r.check, &r.row], &r.twice),
             (&[start, middle, end], &played),
         ];
@@ -264,7 +269,7 @@ impl Test {
             self.answers(&name, pieces(parts)?, due)?;
         }
         // Each datagram is a read of its own, and an empty one is the end.
-        for (parts, due) in &cases[6..10] {
+        for (parts, due) in &cases[7..12] {
             let (ours, theirs) = UnixDatagram::pair()?;
             for part in *parts {
                 ours.send(part.as_bytes())?;
@@ -282,6 +287,7 @@ impl Test {
             ("the last line is late", &r.sheet),
             ("the end is late", &r.make),
             ("the end of all parties is late", &r.all),
+            ("the end of `why` is late", &r.why),
             ("all is late", &String::new()),
         ] {
             let (other_end, input) = impatient_input(bytes)?;

@@ -15,6 +15,9 @@ const TEXT: usize = 180_224;
 const OLD_ROW: Place = (7, 8, 9);
 const OLD_BYTE: u8 = b'?';
 
+/// `why` of M for participant 0.
+const WHY_M: &str = "frozen,0,1\nstep,0,0\nbranch,0,2\n";
+
 /// Three participants, of whom the first and the last have a branch of their own.
 const ENDS: &str = "bitml,3,1\ndef,0,0,0,0,c,2,1,0,w,0,4,0,w,2\n";
 
@@ -112,6 +115,7 @@ const ALL: [usize; 3] = [ALL_ROWS, ALL_ROWS + 1, ALL_ROWS + 100];
 pub fn by_hand() -> Vec<Case> {
     let mut cases = Cases::default();
     one_answer(&mut cases);
+    why(&mut cases);
     all_parties(&mut cases);
     sixteen(&mut cases);
     few_places(&mut cases);
@@ -157,6 +161,31 @@ fn one_answer(cases: &mut Cases) {
         ("row,1,0,1\nrow,0,0,2", [21, 5, 0]),
     ] {
         cases.refused(&format!("{T}check,0\n{rows}\n"), &enough, refusal);
+    }
+}
+
+/// "After this word .. the row buffer is zero", also for a liquid sheet; it asks for 512 places.
+fn why(cases: &mut Cases) {
+    for (sheet, participant, text) in [
+        (T, 0, "liquid,0,2,1\n"),
+        (M, 1, "liquid,1,5,1\n"),
+        (W, 0, "liquid,0,1,1\n"),
+        (M, 0, WHY_M),
+        (D, 1, "frozen,1,0\nbranch,0,1\nbranch,1,1\n"),
+        (ENDS, 1, "frozen,1,0\nbranch,0,1\nbranch,1,1\n"),
+    ] {
+        cases.answered(&format!("{sheet}why,{participant}\n"), &ANY, text, &[]);
+    }
+    let enough = ANY.map(|places| (places, TEXT));
+    for (last, refusal) in [
+        ("why", [2, 3, 2]),
+        ("why,0", [2, 3, 3]),
+        ("why,0,\n", [9, 3, 3]),
+        ("why,2,\n", [6, 3, 2]),
+        ("why,0\nwhy,0\n", [9, 4, 1]),
+        ("whyy,0\n", [3, 3, 1]),
+    ] {
+        cases.refused(&format!("{T}{last}"), &enough, refusal);
     }
 }
 
@@ -278,7 +307,7 @@ fn short_buffers(cases: &mut Cases) {
         cases.refused(request, &short, [7, 0, 0]);
         cases.refused(request, &enough, refusal);
     }
-    for word in ["make,0", "makeall", "check,0", "play"] {
+    for word in ["make,0", "makeall", "why,0", "check,0", "play"] {
         cases.refused(&format!("{W}{word}\n"), &short, [7, 0, 0]);
     }
     let longest = "x".repeat(65_536);

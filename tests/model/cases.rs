@@ -55,6 +55,9 @@ pub fn by_hand() -> Vec<Case> {
     longest_reply(&mut cases);
     parties(&mut cases);
     anyway(&mut cases);
+    longest_runs(&mut cases);
+    far_nodes(&mut cases);
+    why_behind_a_full_sheet(&mut cases);
     cases.list
 }
 
@@ -706,4 +709,105 @@ fn anyway(cases: &mut Cases) {
             0,
         );
     }
+}
+
+/// A sheet of 512 nodes in one chain for participant 0 of two: 15 definitions of 32 nodes and one of 31,
+/// each node held by a split, each last one renewed as the next definition, or paid to leave; then one
+/// of a single node, 511, whose contract is `last`.
+pub fn chain(last: &str) -> String {
+    let definition = |number: usize| {
+        let above = if number < 15 { 31 } else { 30 };
+        let splits = "c,1,0,0,s,1,1,".repeat(above);
+        format!("def,0,0,0,{splits}c,2,0,0,w,0,0,0,g,{}\n", number + 1)
+    };
+    let definitions: String = (0..16).map(definition).collect();
+    format!("bitml,2,17\n{definitions}def,0,0,0,{last}\n")
+}
+
+/// The steps along it: by the renewal from each last node of a definition, by the split from the others.
+fn steps_of_the_chain() -> String {
+    let last = |node: usize| node % 32 == 31 || node == 510;
+    let step = |node: usize| format!("step,{node},{}\n", u32::from(last(node)));
+    (0..511).map(step).collect()
+}
+
+/// The longest runs: 511 steps, to a node without branches, to one with 16, and over 1,024 branches.
+fn longest_runs(cases: &mut Cases) {
+    let steps = steps_of_the_chain();
+    cases.expect(
+        "511 steps",
+        &format!("{}why,0\n", chain("c,0")),
+        format!("frozen,0,511\n{steps}").trim_end(),
+    );
+    cases.expect(
+        "511 steps and 16 branches",
+        &format!(
+            "{}why,0\n",
+            chain(&format!("c,16{}", ",0,0,g,0,2,0,g,0".repeat(8)))
+        ),
+        &format!("frozen,0,511\n{steps}{}", causes(&[4, 1].repeat(8))),
+    );
+    cases.expect(
+        "511 steps that are not due",
+        &format!("{}why,0\n", chain("c,1,1,0,w,0")),
+        "liquid,0,512,32",
+    );
+    // Each node is paid to leave or leads on; the last has the two branches that are left.
+    let pair = "c,2,0,0,w,0,0,0,";
+    let splits = format!("{pair}s,1,1,").repeat(31);
+    let definitions: String = (1..16)
+        .map(|next| format!("def,0,0,0,{splits}{pair}g,{next}\n"))
+        .collect();
+    let sheet = format!("bitml,2,16\n{definitions}def,0,0,0,{splits}c,2,0,0,g,15,2,0,w,0\n");
+    let steps: String = (0..511).map(|node| format!("step,{node},1\n")).collect();
+    cases.expect(
+        "511 steps over 1,024 branches",
+        &format!("{sheet}why,0\n"),
+        &format!("frozen,0,511\n{steps}{}", causes(&[4, 1])),
+    );
+}
+
+/// The lines of these causes, without the last LF.
+fn causes(numbers: &[u32]) -> String {
+    let line = |(branch, cause): (usize, &u32)| format!("branch,{branch},{cause}");
+    let lines: Vec<String> = numbers.iter().enumerate().map(line).collect();
+    lines.join("\n")
+}
+
+/// Nodes 255 and 256 both lead on; what stands before them is behind the frozen node.
+fn far_nodes(cases: &mut Cases) {
+    let leaf = vec!["1,c,0"; 8].join(",");
+    let nine = vec![format!("1,c,1,0,0,s,8,{leaf}"); 7].join(",");
+    let four = vec![format!("0,0,s,7,{nine}"); 4].join(",");
+    let leads = "c,2,0,0,w,0,0,0,g,1";
+    let sheet = format!(
+        "bitml,1,3\ndef,1,0,c,2,0,0,w,0,0,0,g,2\ndef,1,0,c,4,{four}\n\
+         def,1,0,c,2,0,0,w,0,0,0,s,2,1,{leads},1,{leads}\n"
+    );
+    cases.expect(
+        "nodes 255 and 256",
+        &format!("{sheet}why,0\n"),
+        &format!(
+            "frozen,0,1\nstep,0,1\nstep,254,1\nstep,255,1\n{}",
+            causes(&[5; 4])
+        ),
+    );
+}
+
+/// The limit of the sheet's bytes is not one of its line.
+fn why_behind_a_full_sheet(cases: &mut Cases) {
+    let full = sheet_up_to(32_768 - 8) + "0,0,w,0\n";
+    let line = full.lines().count() + 1;
+    cases.expect(
+        "why a full sheet is frozen",
+        &format!("{full}why,0\n"),
+        &format!("frozen,0,0\n{}", causes(&[3; 16])),
+    );
+    for (last, number, field) in [("why", 2, 2), ("why,1\n", 6, 2), ("why,0,\n", 9, 3)] {
+        let request = format!("{full}{last}");
+        cases.refused("why behind a full sheet", &request, number, line, field);
+    }
+    let mut longest = format!("{W}why,0\n");
+    longest += &"x".repeat(65_536 - longest.len());
+    cases.refused("65,536 bytes, a line behind `why`", &longest, 9, 4, 1);
 }

@@ -1,5 +1,5 @@
-//! A generator of requests for document 01: valid ones of every shape, `make`, `makeall`, `check` and
-//! `play`, and damaged ones.  The same seed always gives the same requests.
+//! A generator of requests for document 01 and the change requests: valid ones of every shape, `make`,
+//! `makeall`, `why`, `check` and `play`, and damaged ones.  The same seed always gives the same requests.
 //!
 //! Use: `Generator::new(seed)` is an endless iterator of requests (bytes).  The module stands
 //! beside `model` (it uses the model's reader, rows and ledger to make rows that are accepted and
@@ -186,6 +186,9 @@ struct Shape {
     /// Does each contract get a branch that is own to the favourite?  Then the sheet is liquid
     /// for the favourite.
     easy: bool,
+    /// Is that branch a `w`, and have contracts of the last definition now and then none?  Then the
+    /// sheet is frozen deep inside, with several ways to get there.
+    pits: bool,
 }
 
 impl Shape {
@@ -211,8 +214,9 @@ impl Shape {
             open: random.pick(&[20, 70, 95]),
             rich: random.pick(&[0, 10, 60]),
             easy: random.chance(60),
+            pits: false,
         };
-        match random.below(12) {
+        match random.below(13) {
             // Small and plain.
             0 => {}
             // Deep.
@@ -262,7 +266,7 @@ impl Shape {
                 shape.unsigned = random.pick(&[20, 60, 90]);
             }
             // Exits by conditions that hold anyway.
-            7..=9 => {
+            7..=10 => {
                 shape.secrets = random.between(2, 8);
                 shape.favour = 100;
                 shape.actions = [0, 1, 8, 0];
@@ -275,7 +279,7 @@ impl Shape {
                 shape.easy = random.chance(90);
             }
             // Splits and renewals that nothing hinders: plays that make many contracts.
-            10 => {
+            11 => {
                 shape.definitions = random.between(1, 3);
                 shape.nodes = random.between(40, 512);
                 shape.branches = 1_024;
@@ -307,6 +311,22 @@ impl Shape {
             shape.secrets = 0;
         }
         shape.nodes = shape.nodes.max(shape.definitions);
+        shape
+    }
+
+    /// Frozen deep inside, and several ways lead there.
+    fn with_pits(random: &mut Random) -> Shape {
+        let mut shape = Shape::random(random);
+        shape.definitions = random.between(2, 7);
+        shape.nodes = shape.definitions + random.pick(&[3, 6, 12, 25, 100, 300]);
+        shape.branches = 1_024;
+        shape.depth = random.pick(&[2, 3, 3, 4, 6, 32]);
+        shape.least = 2;
+        shape.most = random.between(3, 6);
+        shape.parts = random.between(1, 3);
+        shape.actions = random.pick(&[[0, 2, 1, 4], [0, 3, 0, 3], [0, 4, 3, 2]]);
+        shape.easy = true;
+        shape.pits = true;
         shape
     }
 }
@@ -407,16 +427,27 @@ impl Grower<'_> {
         if self.random.chance(2) && !self.shape.easy {
             count = 0;
         }
+        // A pit lets nobody out but by chance, or has no branch at all.
+        let last = self.lines.len() == self.shape.definitions;
+        let pit = self.shape.pits && self.random.chance(if last { 80 } else { 1 });
+        if pit && self.random.chance(30) {
+            count = 0;
+        }
         self.branches_left -= count;
         self.put_word("c");
         self.put_number(count, Role::Count);
-        let own = if self.shape.easy {
+        let own = if self.shape.easy && !pit {
             self.random.below(count.max(1))
         } else {
             count
         };
         for branch in 0..count {
-            self.branch(depth, branch == own);
+            if self.shape.pits && branch == own {
+                self.guard(true);
+                self.withdraw();
+            } else {
+                self.branch(depth, branch == own);
+            }
         }
     }
 
@@ -491,11 +522,22 @@ impl Grower<'_> {
                 self.contract(depth + 1);
             }
             _ => {
-                let definition = self.random.below(self.shape.definitions);
+                let definition = self.renewed();
                 self.put_word("g");
                 self.put_number(definition, Role::Definition);
             }
         }
+    }
+
+    /// A definition to renew as: any, or with pits the next one, or any up to it.
+    fn renewed(&mut self) -> usize {
+        let definitions = self.shape.definitions;
+        if !self.shape.pits {
+            return self.random.below(definitions);
+        }
+        let next = self.lines.len().min(definitions - 1);
+        let other = self.random.between(0, next);
+        self.random.pick(&[next, next, other])
     }
 
     fn withdraw(&mut self) {
@@ -707,13 +749,13 @@ const EDGES: [Edge; 10] = [
 ];
 
 /// Every word of the language.
-const WORDS: [&str; 27] = [
+const WORDS: [&str; 28] = [
     "bitml", "def", "c", "w", "s", "r", "g", "t", "and", "not", "eq", "lt", "k", "v", "add", "sub",
-    "make", "makeall", "check", "row", "play", "x", "wait", "sign", "tell", "fire", "renew",
+    "make", "makeall", "why", "check", "row", "play", "x", "wait", "sign", "tell", "fire", "renew",
 ];
 
 /// Texts that come close to a word or a number, and numbers at the edge of some range.
-const TEXTS: [&str; 56] = [
+const TEXTS: [&str; 58] = [
     "",
     "0",
     "1",
@@ -767,6 +809,8 @@ const TEXTS: [&str; 56] = [
     "wait",
     "makeal",
     "makealls",
+    "wh",
+    "whyy",
     "1\r",
     "t\r",
     "\u{0661}",
@@ -811,6 +855,10 @@ impl Generator {
     /// A random sheet within all limits (but now and then with weights that add to 0).
     fn sheet(&mut self) -> Draft {
         let shape = Shape::random(&mut self.random);
+        self.sheet_of_shape(shape)
+    }
+
+    fn sheet_of_shape(&mut self, shape: Shape) -> Draft {
         let mut grower = self.grower(shape);
         grower.sheet();
         Draft {
@@ -1025,21 +1073,22 @@ impl Generator {
 
     fn add_last_part(&mut self, draft: &mut Draft) {
         let Some(sheet) = Self::sheet_of(draft) else {
-            draft
-                .lines
-                .push(vec![word("make"), number(0, Role::Participant)]);
+            let last = self.random.pick(&["make", "why"]);
+            let asked = vec![word(last), number(0, Role::Participant)];
+            draft.lines.push(asked);
             return;
         };
-        match self.random.below(12) {
-            0..=2 => {
+        match self.random.below(13) {
+            0 | 1 => {
                 let participant = self.participant(&sheet, 50);
                 draft.lines.push(vec![
                     word("make"),
                     number(participant as u64, Role::Participant),
                 ]);
             }
-            3 | 4 => self.add_make_all(draft),
-            5..=7 => self.add_check(draft, &sheet),
+            2 | 3 => self.add_make_all(draft),
+            4 | 5 => self.add_why(draft, &sheet),
+            6..=8 => self.add_check(draft, &sheet),
             _ => {
                 // Large sheets and renewals allow plays that make many contracts.
                 let large = sheet.nodes.len() >= 60 || sheet.nodes.len() > 8 && renews(&sheet);
@@ -1067,6 +1116,48 @@ impl Generator {
             }
         }
         self.random.below(sheet.participants)
+    }
+
+    /// `why`, most often of another sheet, one with pits.
+    fn add_why(&mut self, draft: &mut Draft, sheet: &Sheet) {
+        if self.random.chance(75) {
+            let shape = Shape::with_pits(&mut self.random);
+            *draft = self.sheet_of_shape(shape);
+            let pits = Self::sheet_of(draft);
+            return self.ask_why(draft, pits.as_ref().unwrap_or(sheet));
+        }
+        self.ask_why(draft, sheet);
+    }
+
+    /// Now and then with no participant, with one too many, or with a field or a line too many.
+    fn ask_why(&mut self, draft: &mut Draft, sheet: &Sheet) {
+        let participant = match self.random.below(20) {
+            0 => sheet.participants,
+            1..=3 => self.random.below(sheet.participants),
+            _ => Self::furthest(sheet),
+        };
+        let mut line = vec![word("why")];
+        if !self.random.chance(2) {
+            line.push(number(participant as u64, Role::Participant));
+        }
+        if self.random.chance(4) {
+            line.push(word(self.random.pick(&["", "0", "x"])));
+        }
+        draft.lines.push(line.clone());
+        if self.random.chance(4) {
+            let behind = self.random.pick(&[Vec::new(), vec![word("makeall")], line]);
+            draft.lines.push(behind);
+        }
+    }
+
+    /// The first participant for whom the frozen node is furthest away.
+    fn furthest(sheet: &Sheet) -> usize {
+        let steps = |participant: &usize| match model::make(sheet, *participant) {
+            Ok(_) => 0,
+            Err(frozen) => 1 + model::run_to(sheet, frozen, |_, _| true).len(),
+        };
+        let participants = (0..sheet.participants).rev();
+        participants.max_by_key(steps).unwrap_or(0)
     }
 
     /// `makeall`, now and then with a field or a line too many.

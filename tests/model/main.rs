@@ -22,15 +22,21 @@ mod model;
 mod pins;
 mod tables;
 
-use std::collections::{HashMap, HashSet, VecDeque};
+use std::collections::{BTreeMap, HashMap, HashSet, VecDeque};
 use std::io::{Read, Write};
 use std::path::Path;
 use std::time::{Duration, Instant};
 
-use cases::{sheet_up_to, sixteen_parties, Case, D, R, T};
+use cases::{chain, sheet_up_to, sixteen_parties, Case, D, R, T};
 use generate::{Generator, Random};
 use model::sheets::{self, read_sheet, write_sheet};
-use model::{Action, Condition, Expression, LastPart, Ledger, Reply, Row, Sheet};
+use model::{Action, Condition, Expression, LastPart, Ledger, Reply, Row, Sheet, Step};
+
+/// Is the last line a `why`?
+fn asks_why(request: &[u8]) -> bool {
+    let lines: Vec<&[u8]> = request.split(|byte| *byte == b'\n').collect();
+    lines.len() > 1 && lines[lines.len() - 2].starts_with(b"why,")
+}
 
 /// Counts the cases and keeps those that failed.
 #[derive(Default)]
@@ -50,8 +56,9 @@ impl Cases {
                 "{name}\n  request {shown}\n  due {due:?}\n  got {printed:?}"
             ));
         }
-        // The row buffer is zero unless the sheet was found liquid.
-        if rows.iter().any(|(_, _, rank)| *rank > 0) != printed.contains("liquid,") {
+        // The row buffer is zero unless the sheet was found liquid by a word other than `why`.
+        let liquid = printed.contains("liquid,") && !asks_why(request);
+        if rows.iter().any(|(_, _, rank)| *rank > 0) != liquid {
             self.failed
                 .push(format!("{name}: row buffer {rows:?} with {printed:?}"));
         }
@@ -363,6 +370,122 @@ fn properties(cases: &mut Cases, seed: u64, count: usize) {
     println!("properties: {small} small sheets searched, {liquid} liquid, {plays} plays followed");
 }
 
+/// The first of the shortest runs from the start to a list that holds the node, by search over lists;
+/// `None` if there are too many lists.  Only for small sheets.
+fn first_run(sheet: &Sheet, goal: usize) -> Option<Vec<Step>> {
+    let mut seen: HashSet<Vec<usize>> = HashSet::new();
+    // Lists of nodes, each with the first of the shortest runs to it.
+    let mut lists = BTreeMap::from([(vec![sheet.definitions[0].root], Vec::new())]);
+    while seen.len() < 3_000 {
+        let ending = lists.iter().filter(|(list, _)| list.contains(&goal));
+        if let Some(run) = ending.map(|(_, run)| run).min() {
+            return Some(run.clone());
+        }
+        seen.extend(lists.keys().cloned());
+        let mut after: BTreeMap<Vec<usize>, Vec<Step>> = BTreeMap::new();
+        for (list, run) in &lists {
+            for (next, step) in steps_from(sheet, list) {
+                let longer = [&run[..], &[step]].concat();
+                if !seen.contains(&next) && after.get(&next).map_or(true, |run| longer < *run) {
+                    after.insert(next, longer);
+                }
+            }
+        }
+        lists = after;
+    }
+    None
+}
+
+/// The lists that one step makes of a list, in the order of their nodes, and that step.
+fn steps_from(sheet: &Sheet, list: &[usize]) -> Vec<(Vec<usize>, Step)> {
+    let mut found = Vec::new();
+    for place in 0..list.len() {
+        let node = list[place];
+        for (number, branch) in sheet.nodes[node].branches.iter().enumerate() {
+            let mut next = list.to_vec();
+            next.remove(place);
+            next.extend(sheet.replaced_by(branch));
+            next.sort_unstable();
+            found.push((next, (node, number)));
+        }
+    }
+    found
+}
+
+/// Does this cause apply to a branch, as the request words it?
+fn applies(sheet: &Sheet, participant: usize, step: Step, cause: u32) -> bool {
+    let node = &sheet.nodes[step.0];
+    let branch = &node.branches[step.1];
+    let owners = &sheet.definitions[node.definition].owners;
+    let signs = |who: usize| branch.signers >> who & 1 == 1;
+    match (cause, &branch.action) {
+        (1, _) => (0..sheet.participants).any(|who| who != participant && signs(who)),
+        (2, Action::Reveal { secrets, .. }) => {
+            secrets.iter().any(|secret| owners[*secret] != participant)
+        }
+        (3, Action::Reveal { condition, .. }) => condition.holds(&|_| None) != Some(true),
+        (4, action) => matches!(action, Action::Renew { .. }),
+        (5, _) => {
+            let mut contracts = branch.contracts().into_iter();
+            contracts.any(|contract| least_steps(sheet, participant, contract).is_none())
+        }
+        _ => false,
+    }
+}
+
+/// What is printed for `why` says what it must: the last line of `make`, the first of the shortest runs,
+/// and for each branch the lowest cause.
+fn why_holds(sheet: &Sheet, text: &str, participant: usize) -> Option<bool> {
+    let ask = |word: &str| {
+        let request = format!("{text}{word},{participant}\n");
+        model::judge(request.as_bytes()).0.printed()
+    };
+    let (made, why) = (ask("make"), ask("why"));
+    let last = made.lines().last()?;
+    let Err(frozen) = model::make(sheet, participant) else {
+        return Some(why.lines().eq([last]));
+    };
+    let run = first_run(sheet, frozen)?;
+    let steps = run
+        .iter()
+        .map(|(node, branch)| format!("step,{node},{branch}"));
+    let causes = (0..sheet.nodes[frozen].branches.len()).map(|branch| {
+        let cause = (1..=5).find(|cause| applies(sheet, participant, (frozen, branch), *cause));
+        format!("branch,{branch},{}", cause.unwrap_or(0))
+    });
+    let due = std::iter::once(last.to_string()).chain(steps).chain(causes);
+    Some(why.lines().eq(due))
+}
+
+/// `why` against searches over lists, for small sheets.
+fn reasons(cases: &mut Cases, seed: u64, count: usize) {
+    let mut generator = Generator::new(seed);
+    let (mut found, mut given_up) = (0, 0);
+    for _ in 0..count {
+        let bytes = generator.request();
+        let Ok(request) = model::read(&bytes) else {
+            continue;
+        };
+        let sheet = &request.sheet;
+        if sheet.nodes.len() > 10 {
+            continue;
+        }
+        let lines = bytes.split_inclusive(|byte| *byte == b'\n');
+        let text: Vec<u8> = lines.take(request.line - 1).flatten().copied().collect();
+        let text = String::from_utf8_lossy(&text);
+        for participant in 0..sheet.participants {
+            match why_holds(sheet, &text, participant) {
+                Some(holds) => {
+                    found += 1;
+                    cases.holds("why", holds);
+                }
+                None => given_up += 1,
+            }
+        }
+    }
+    println!("why: {found} by search over lists, {given_up} with too many of them");
+}
+
 /// Sheets as tables: what is read is written back, and what is written from a table with another
 /// number reads to that table.
 fn both_ways(cases: &mut Cases, seed: u64, count: usize) {
@@ -458,7 +581,7 @@ fn limits_reached(bytes: &[u8]) -> Vec<&'static str> {
         ("65,536 bytes", bytes.len() == 65_536),
     ];
     match &request.part {
-        LastPart::Make { .. } => {}
+        LastPart::Make { .. } | LastPart::Why { .. } => {}
         LastPart::MakeAll => reached.push(("16 parties", sheet.participants == 16)),
         LastPart::Check { rows, .. } => reached.push(("512 rows", rows.len() == 512)),
         LastPart::Play { values, events } => {
@@ -514,6 +637,11 @@ struct Counts {
     /// Answers to `makeall`, and those that are liquid for some and frozen for others.
     parties: usize,
     mixed: usize,
+    /// Answers to `why`; those that are frozen, those with two steps or more, and the most steps.
+    whys: usize,
+    frozen_whys: usize,
+    runs: usize,
+    longest_run: usize,
     taken: usize,
     events: usize,
     plays: usize,
@@ -553,6 +681,14 @@ fn generated(seed: u64, count: usize) -> Counts {
             counts.parties += 1;
             let mixed = text.contains("liquid,") && text.contains("frozen,");
             counts.mixed += usize::from(mixed);
+        }
+        if asks_why(&request) {
+            let steps = text.matches("step,").count();
+            counts.whys += 1;
+            counts.frozen_whys += usize::from(text.contains("frozen,"));
+            counts.runs += usize::from(steps >= 2);
+            counts.longest_run = counts.longest_run.max(steps);
+            continue;
         }
         for line in text.lines() {
             let fields: Vec<&str> = line.split(',').collect();
@@ -609,6 +745,7 @@ fn speed(cases: &mut Cases) {
         ("484 rows", rows.clone()),
         ("a wide make", format!("{wide}make,0\n")),
         ("16 parties", sixteen_parties("c,1,0,0,w,0") + "makeall\n"),
+        ("511 steps", chain("c,1,0,0,g,0") + "why,0\n"),
         ("signatures", fill(format!("{D}play\n"), "sign,0,0,0\n")),
         (
             "renewals",
@@ -728,6 +865,7 @@ fn selftest(folder: &Path, lists: &Path) -> Result<bool, String> {
     println!("speed:");
     speed(&mut cases);
     properties(&mut cases, 2, 3_000);
+    reasons(&mut cases, 4, 3_000);
     both_ways(&mut cases, 3, 2_000);
     examples(&mut cases, folder);
 
@@ -759,6 +897,10 @@ fn selftest(folder: &Path, lists: &Path) -> Result<bool, String> {
         counts.events,
         counts.taken
     );
+    println!(
+        "  why {}, frozen {}, with two steps or more {}, the longest run {}",
+        counts.whys, counts.frozen_whys, counts.runs, counts.longest_run
+    );
     println!("  requests that were read and reach a limit without passing it:");
     for limit in LIMITS {
         let count = counts.limits.get(limit).copied().unwrap_or(0);
@@ -778,6 +920,10 @@ fn selftest(folder: &Path, lists: &Path) -> Result<bool, String> {
     ] {
         cases.holds(what, count > 0);
     }
+    cases.holds(
+        "a quarter of the answers to `why` have two steps",
+        4 * counts.runs >= counts.whys,
+    );
 
     // The same failure may occur many times over; show each kind once.
     let mut shown: HashMap<&str, usize> = HashMap::new();

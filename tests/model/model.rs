@@ -6,14 +6,15 @@
 //! and no tricks.  The tests compare the verified program with it.
 //!
 //! * [`read`] is the reader: bytes to a [`Request`], or the first [`Refusal`].
-//! * [`exits`], [`reached`], [`make`] and [`check`] are the judging part.
+//! * [`exits`], [`reached`], [`make`], [`check`], [`run_to`] and [`cause`] are the judging part.
 //! * [`Ledger`] is the program's ledger; [`Ledger::step`] is one event.
 //! * [`judge`] is the whole program: bytes to what it prints, and the row buffer; [`judge_lent`] is
 //!   the same for buffers of any length, and [`call`] fills them.
 //! * [`sheets`] has a sheet as a table, from its text and back.
 //!
-//! `rule!`, `limit!`, `lower!` and `asking!` are of wrong.rs.  What comes first in a `rule!` is the
-//! rule; what follows it are wrong ones by name, which only the test of the cases turns on.
+//! `rule!`, `limit!`, `lower!`, `cause!`, `number!` and `asking!` are of wrong.rs.  What comes first in
+//! a `rule!` is the rule; what follows it are wrong ones by name, which only the test of the cases turns
+//! on.
 
 #[macro_use]
 #[path = "wrong.rs"]
@@ -22,6 +23,8 @@ pub mod wrong;
 pub mod sheets;
 
 use sheets::Answer;
+use std::cmp::Reverse;
+use std::collections::VecDeque;
 use wrong::Operand;
 
 // ---------------------------------------------------------------------------------------------
@@ -175,6 +178,10 @@ pub enum LastPart {
     },
     /// `make` for every participant.
     MakeAll,
+    /// Why the sheet is frozen, if it is.
+    Why {
+        participant: usize,
+    },
     Check {
         participant: usize,
         rows: Vec<Row>,
@@ -708,7 +715,7 @@ impl<'a> Reader<'a> {
 
     fn last_part(&mut self) -> Result<LastPart, Refusal> {
         self.begin_line();
-        match self.word(&["make", "makeall", "check", "play"], [])? {
+        match self.word(&["make", "makeall", "why", "check", "play"], [])? {
             "make" => {
                 let participant = self.thing(limit!(Maker, self.participants))?;
                 self.end_line()?;
@@ -723,27 +730,52 @@ impl<'a> Reader<'a> {
                 self.end_request(rule!(0; MoreLinesAfterAll: usize::MAX, EmptyLineAfterAll: 1))?;
                 Ok(LastPart::MakeAll)
             }
+            "why" => {
+                let participant = self.asker()?;
+                self.end_request(rule!(0; MoreLinesAfterWhy: usize::MAX, EmptyLineAfterWhy: 1))?;
+                Ok(LastPart::Why { participant })
+            }
             "check" => {
                 let participant = self.thing(limit!(CheckedFor, self.participants))?;
                 self.end_line()?;
                 let rows = self.rows()?;
                 Ok(LastPart::Check { participant, rows })
             }
-            _ => {
-                let definition = rule!(0; ValuesOfTheLast: self.definitions.len() - 1);
-                let secrets = self.definitions[definition].owners.len();
-                let mut values = Vec::new();
-                for _ in 0..secrets {
-                    values.push(self.value()?);
-                }
-                self.end_line()?;
-                let mut events = Vec::new();
-                while self.line_follows() {
-                    events.push(self.event()?);
-                }
-                Ok(LastPart::Play { values, events })
-            }
+            _ => self.play(),
         }
+    }
+
+    /// Reads the values of `play`, and its events.
+    fn play(&mut self) -> Result<LastPart, Refusal> {
+        let definition = rule!(0; ValuesOfTheLast: self.definitions.len() - 1);
+        let secrets = self.definitions[definition].owners.len();
+        let mut values = Vec::new();
+        for _ in 0..secrets {
+            values.push(self.value()?);
+        }
+        self.end_line()?;
+        let mut events = Vec::new();
+        while self.line_follows() {
+            events.push(self.event()?);
+        }
+        Ok(LastPart::Play { values, events })
+    }
+
+    /// Reads the participant of `why`, and the end of its line.
+    fn asker(&mut self) -> Result<usize, Refusal> {
+        let none = self.next != Next::Field;
+        if rule!(false; WhyForNobody: true, WhyMayNameNobody: none) {
+            self.end_line()?;
+            return Ok(0);
+        }
+        let count = limit!(Asker, self.participants);
+        let asker = self.thing(rule!(count; AskerAfterTheLine: usize::MAX))?;
+        while rule!(false; WhyFieldsIgnored: self.next == Next::Field) {
+            self.take()?;
+        }
+        self.end_line()?;
+        rule!((); AskerAfterTheLine: self.settle([(6, asker >= count)])?);
+        Ok(asker)
     }
 
     /// The request must be over but for so many bytes: a line too many gets 9, whatever stands in it.
@@ -1187,6 +1219,248 @@ fn row_fault(sheet: &Sheet, participant: usize, row: &Row, rank_of: &[Option<u64
         RanksWrap: row.rank < least % 65_536,
         RanksStop: row.rank < least.min(65_535));
     lowest([(11, missing), (12, !own(&row.branch)), (13, too_low)])
+}
+
+// ---------------------------------------------------------------------------------------------
+// Why a sheet is frozen
+// ---------------------------------------------------------------------------------------------
+
+/// A step of an abstract run: the node that it replaces, and by which branch.
+pub type Step = (usize, usize);
+
+/// For each node, the least count of steps by these branches from it alone to a list that holds `goal`.
+fn steps_away(
+    sheet: &Sheet,
+    goal: usize,
+    follows: &impl Fn(usize, usize) -> bool,
+) -> Vec<Option<usize>> {
+    let mut before: Vec<Vec<usize>> = vec![Vec::new(); sheet.nodes.len()];
+    for (node, Node { branches, .. }) in sheet.nodes.iter().enumerate() {
+        for number in (0..branches.len()).filter(|number| follows(node, *number)) {
+            for next in step_to(sheet, (node, number)) {
+                before[next].push(node);
+            }
+        }
+    }
+    let mut away = vec![None; sheet.nodes.len()];
+    away[goal] = Some(0);
+    let mut found = VecDeque::from([(goal, 0)]);
+    while let Some((node, steps)) = found.pop_front() {
+        for earlier in &before[node] {
+            if away[*earlier].is_none() {
+                away[*earlier] = Some(steps + 1);
+                found.push_back((*earlier, steps + 1));
+            }
+        }
+    }
+    away
+}
+
+/// The nodes that a step puts in the place of its node.
+fn step_to(sheet: &Sheet, (node, number): Step) -> Vec<usize> {
+    let nodes = sheet.replaced_by(&sheet.nodes[node].branches[number]);
+    rule!(nodes;
+        StepsToTheFirstPart: nodes.into_iter().take(1).collect(),
+        StepsToTheLastPart: nodes.into_iter().last().into_iter().collect())
+}
+
+/// Of the shortest runs by these branches to a list that holds `goal`, the first when compared step by
+/// step by node, then branch.
+pub fn run_to(sheet: &Sheet, goal: usize, follows: impl Fn(usize, usize) -> bool) -> Vec<Step> {
+    let away = steps_away(sheet, goal, &follows);
+    let first = rule!(0; StepsFromTheLast: sheet.definitions.len() - 1);
+    let mut list = vec![sheet.definitions[first].root];
+    let mut run = Vec::new();
+    // What a step leaves in the list is further away than what it puts there, so that no shortest run
+    // comes back to it.
+    while let Some(step) = next_step(sheet, &list, &away, &follows) {
+        list = step_to(sheet, step);
+        run.push(step);
+    }
+    run
+}
+
+/// The next step of that run, if the list does not hold its goal.
+fn next_step(
+    sheet: &Sheet,
+    list: &[usize],
+    away: &[Option<usize>],
+    follows: &impl Fn(usize, usize) -> bool,
+) -> Option<Step> {
+    let nearest = list.iter().filter_map(|node| away[*node]).min()?;
+    let after = nearest.checked_sub(1)?;
+    let leads = |step: &Step| {
+        let mut next = step_to(sheet, *step).into_iter();
+        follows(step.0, step.1) && next.any(|node| away[node] == Some(after))
+    };
+    let steps = list
+        .iter()
+        .filter(|node| away[**node] == Some(nearest))
+        .flat_map(|node| (0..sheet.nodes[*node].branches.len()).map(|number| (*node, number)));
+    let steps = steps.filter(leads);
+    rule!(steps.min();
+        LastRun: steps.max(),
+        HighestNodeFirst: steps.min_by_key(|step| (Reverse(step.0), step.1)),
+        HighestBranchFirst: steps.min_by_key(|step| (step.0, Reverse(step.1))),
+        BranchBeforeNode: steps.min_by_key(|step| (step.1, step.0)),
+        StepNodesAsTexts: steps.min_by_key(|step| (step.0.to_string(), step.1)),
+        StepBranchesAsTexts: steps.min_by_key(|step| (step.0, step.1.to_string())),
+        StepNodesAsBytes: steps.min_by_key(|step| (step.0 as u8, step.1)))
+}
+
+/// The run that `why` tells.
+fn told_run(sheet: &Sheet, participant: usize, frozen: usize) -> Vec<Step> {
+    let branch = |node: usize, number: usize| &sheet.nodes[node].branches[number];
+    let own = |node: usize, number: usize| sheet.is_own(node, number, participant);
+    let mut run = rule!(run_to(sheet, frozen, |_, _| true);
+        OwnStepsOnly: run_to(sheet, frozen, own),
+        OpenStepsOnly: run_to(sheet, frozen, |node, number| branch(node, number).opens == 0),
+        UnsignedStepsOnly: run_to(sheet, frozen, |node, number| branch(node, number).signers == 0),
+        NoStepsByRenewals: run_to(sheet, frozen, |node, number| !branch(node, number).is_renewal()),
+        NoFalseSteps: run_to(sheet, frozen, |node, number| !wrong::is_false(branch(node, number))),
+        AnyRun: wrong::any_run(sheet, frozen),
+        RunFromTheEnd: wrong::run_from_the_end(sheet, frozen),
+        RunByNodes: wrong::run_by_nodes(sheet, &steps_away(sheet, frozen, &|_, _| true)),
+        RunToTheNearest: wrong::run_to_the_nearest(sheet, participant));
+    rule!(();
+        FirstStepUntold: drop(run.drain(..run.len().min(1))),
+        LastStepUntold: run.truncate(run.len().saturating_sub(1)),
+        StepsBackwards: run.reverse(),
+        StepFromTheFrozen: run.push((frozen, 0)),
+        StepFromTheRoot: if run.is_empty() { run.push((frozen, 0)) },
+        StepsNameTheNext: wrong::name_the_next(&mut run, frozen),
+        StepsByDefinition: wrong::count_by_definition(&mut run, sheet),
+        StepNodesFrom1: run.iter_mut().for_each(|step| step.0 += 1),
+        StepBranchesFrom1: run.iter_mut().for_each(|step| step.1 += 1));
+    run
+}
+
+/// Why the branch is not an exit, the lowest cause that applies.
+pub fn cause(
+    sheet: &Sheet,
+    participant: usize,
+    node: usize,
+    number: usize,
+    exits: &[Option<Row>],
+) -> u32 {
+    let branch = &sheet.nodes[node].branches[number];
+    let definition = rule!(sheet.nodes[node].definition; CauseByDefinition0: 0);
+    let owners = &sheet.definitions[definition].owners;
+    let (anothers, doubtful) = match &branch.action {
+        Action::Reveal {
+            secrets, condition, ..
+        } => (
+            secret_is_anothers(owners, secrets, condition, participant),
+            condition_is_cause(condition),
+        ),
+        _ => (false, false),
+    };
+    let causes = [
+        (1, another_signs(branch, participant)),
+        (2, anothers),
+        (3, doubtful),
+        (4, rule!(branch.is_renewal(); RenewalsAreNoCause: false)),
+        (5, lacks_an_exit(branch, exits)),
+    ];
+    let applying = causes.iter().filter(|(_, applies)| *applies);
+    let numbers = applying.map(|(number, _)| *number);
+    let told = rule!(numbers.reduce(|one, other| cause!(one, other)); LastCause: numbers.max());
+    told.unwrap_or(0)
+}
+
+/// 1: is anyone but the participant among the signers?
+fn another_signs(branch: &Branch, participant: usize) -> bool {
+    let others = branch.signers & !number!(Cause, participant) != 0;
+    let along = branch.signers >> participant & 1 == 1;
+    rule!(others;
+        SignedAlongIsNoCause: others && !along,
+        OwnSignatureIsACause: branch.signers != 0,
+        SignersOfRenewalsAreNoCause: others && !branch.is_renewal(),
+        SignersOfSplitsAreNoCause: others && !matches!(branch.action, Action::Split { .. }),
+        SignersOfRevealsAreNoCause: others && !matches!(branch.action, Action::Reveal { .. }),
+        SignersAreNoCause: false)
+}
+
+/// 2: is a listed secret another's?
+fn secret_is_anothers(
+    owners: &[usize],
+    secrets: &[usize],
+    condition: &Condition,
+    participant: usize,
+) -> bool {
+    let mut anothers = secrets
+        .iter()
+        .filter(|secret| owners[**secret] != participant);
+    rule!(anothers.next().is_some();
+        OwnSecretsAreACause: true,
+        NamedSecretsOnly: anothers.any(|secret| wrong::names(condition, *secret)),
+        UnnamedSecretsOnly: anothers.any(|secret| !wrong::names(condition, *secret)),
+        AllSecretsAnothers: anothers.count() == secrets.len(),
+        FirstSecretAnothers: owners[secrets[0]] != participant,
+        LastSecretAnothers: owners[secrets[secrets.len() - 1]] != participant,
+        SecretsAreNoCause: false)
+}
+
+/// 3: does the condition not count as `t`?
+fn condition_is_cause(condition: &Condition) -> bool {
+    let value = || condition.holds(&|_| None);
+    rule!(!condition.counts();
+        FalseIsNoCause: value().is_none(),
+        NamingIsNoCause: value() == Some(false),
+        OtherThanTIsACause: *condition != Condition::True,
+        ConditionsAreNoCause: false)
+}
+
+/// 5: does a contract in the branch lack an exit?
+fn lacks_an_exit(branch: &Branch, exits: &[Option<Row>]) -> bool {
+    let contracts = branch.contracts();
+    let mut without = contracts.iter().map(|node| exits[*node].is_none());
+    rule!(without.any(|without| without);
+        AllLackExits: !contracts.is_empty() && without.all(|without| without),
+        FirstLacksAnExit: without.next() == Some(true),
+        LastLacksAnExit: without.last() == Some(true))
+}
+
+/// A line for each branch of the frozen node: its number and its cause.
+fn causes(sheet: &Sheet, participant: usize, frozen: usize) -> String {
+    let exits = exits(sheet, participant);
+    let node = rule!(frozen; CausesOfTheRoot: 0);
+    let count = sheet.nodes[node].branches.len();
+    let line = |number: usize| {
+        let of = rule!(number; CauseOfTheNext: (number + 1) % count);
+        let cause = cause(sheet, participant, node, of, &exits);
+        let number = rule!(number; CausesFrom1: number + 1);
+        let cause = rule!(cause; CausesOneLess: cause.wrapping_sub(1));
+        format!("branch,{number},{cause}\n")
+    };
+    let lines = (0..count).map(line);
+    rule!(lines.collect();
+        CausesFalling: lines.rev().collect(),
+        CauseOfTheFirst: lines.take(1).collect(),
+        CausesButTheLast: lines.take(count.saturating_sub(1)).collect())
+}
+
+/// What `why` answers: the last line of `make`, and if that is `frozen` a run to the node and what is wrong
+/// with its branches.
+fn why(sheet: &Sheet, participant: usize) -> String {
+    let participant = rule!(participant; WhyForTheFirst: 0);
+    let made = make(sheet, participant);
+    let (lines, _) = verdict(sheet, participant, made.clone());
+    let last = lines.split_inclusive('\n').last().unwrap_or_default();
+    let Err(frozen) = made else {
+        return rule!(last; WhyPrintsRows: &lines, LiquidUntold: "").to_string();
+    };
+    let run = told_run(sheet, participant, frozen);
+    let line = |(node, branch): Step| format!("step,{node},{branch}\n");
+    let steps: String = run.into_iter().map(line).collect();
+    let causes = causes(sheet, participant, frozen);
+    rule!(format!("{last}{steps}{causes}");
+        FrozenUntold: format!("{steps}{causes}"),
+        FrozenLast: format!("{steps}{causes}{last}"),
+        FrozenBetween: format!("{steps}{last}{causes}"),
+        CausesBeforeSteps: format!("{last}{causes}{steps}"),
+        StepsAlone: format!("{last}{steps}"),
+        CausesAlone: format!("{last}{causes}"))
 }
 
 // ---------------------------------------------------------------------------------------------
@@ -1753,7 +2027,10 @@ fn answer(request: &[u8], places: usize, bytes: usize) -> Result<Printed, Refusa
         return Err(nowhere(7));
     }
     let Request { sheet, part, line } = read(request)?;
-    let all = rule!(part == LastPart::MakeAll; FewPlacesForAnyWord: true);
+    let all = part == LastPart::MakeAll;
+    let all = rule!(all;
+        FewPlacesForAnyWord: true,
+        FewPlacesForWhy: all || matches!(part, LastPart::Why { .. }));
     let asked = rule!(limit!(LentAllRows, ALL_ROWS);
         FewPlacesByCount: ROWS * sheet.participants,
         FewPlacesTaken: ROWS);
@@ -1776,6 +2053,12 @@ fn judge_part(sheet: &Sheet, part: &LastPart, line: usize) -> Result<Printed, Re
             Ok((text, held))
         }
         LastPart::MakeAll => Ok(made_for_all(sheet)),
+        LastPart::Why { participant } => {
+            let told = rule!(why(sheet, *participant);
+                OnlyTInWhy: why(&wrong::only_t(sheet), *participant));
+            let held = rule!(Vec::new(); WhyHoldsRows: buffer(&made(sheet, *participant).1));
+            Ok((told, held))
+        }
         LastPart::Check { participant, rows } => {
             rule!(check(sheet, *participant, rows, line);
                 OnlyTInCheck: check(&wrong::only_t(sheet), *participant, rows, line),
@@ -1793,7 +2076,12 @@ type Made = (String, Vec<Row>);
 
 /// What `make` answers.
 fn made(sheet: &Sheet, participant: usize) -> Made {
-    match make(sheet, participant) {
+    verdict(sheet, participant, make(sheet, participant))
+}
+
+/// The same, from the rows or the lowest reached node with no exit.
+fn verdict(sheet: &Sheet, participant: usize, found: Result<Vec<Row>, usize>) -> Made {
+    match found {
         Ok(rows) => {
             let mut text = String::new();
             for Row { node, branch, rank } in &rows {
@@ -1873,7 +2161,11 @@ pub fn call(request: &[u8], rows: &mut [Place], text: &mut [u8]) -> Answer {
         Reply::Refused { .. } => "",
     };
     let refused = printed.is_empty();
+    let why = || !refused && wrong::asks_why(request);
     rule!(fill(rows, &held);
+        WhyRowsKept: wrong::fill_but(rows, &held, |_| why()),
+        WhyLiquidRowsKept: wrong::fill_but(rows, &held, |_| why() && printed.starts_with("liquid")),
+        WhyPlacesKept: wrong::fill_but(rows, &held, |place| why() && place >= ROWS),
         PastRowsKept: wrong::fill_but(rows, &held, wrong::past_rows(&held)),
         FrozenPlacesKept: wrong::fill_but(rows, &held, wrong::frozen_places(&held, printed)),
         OtherPlacesKept: wrong::fill_but(rows, &held, wrong::other_places(printed)),

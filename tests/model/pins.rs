@@ -58,9 +58,11 @@ fn of_tables(wrong: &Wrong) -> bool {
 
 /// Of so many generated requests, this many in a hundred turn on a rule.
 const GENERATED: usize = 4_000;
-const SHARES: [(usize, Rule, &str); 2] = [
+const SHARES: [(usize, Rule, &str); 4] = [
     (5, Rule::OnlyT, "conditions other than `t`"),
     (1, Rule::OrderNotAsked, "the order of rows"),
+    (1, Rule::LastRun, "which of the shortest runs is told"),
+    (1, Rule::AnyRun, "which runs are the shortest"),
 ];
 
 /// How many of the generated requests have another answer with the wrong rule.

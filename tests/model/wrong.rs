@@ -1,8 +1,8 @@
 //! Wrong rules: for each rule of document 01 ways to misread it.
 //!
 //! The model names them where they apply: `rule!(right; Name: wrong, ..)` for a rule, `limit!(Name, most)`
-//! for a limit, which is also tried one higher and one lower, and `lower!(one, other)` for the order of
-//! two refusals.  `number!(Name, p)` is 2^p, which stands for participant p in a signers field: each
+//! for a limit, which is also tried one higher and one lower, and `lower!(one, other)` and
+//! `cause!(one, other)` for the order of two refusals and of two causes.  `number!(Name, p)` is 2^p, which stands for participant p in a signers field: each
 //! is also tried in the place of the next.  `asking!(value)` marks where the value of a condition is asked
 //! for an own branch: the rules of conditions are tried there alone, in the ledger alone, and in both.
 //! Without `--cfg wrong_rules` these are the right expression and nothing else is run.  With it one wrong
@@ -11,8 +11,8 @@
 use std::collections::VecDeque;
 
 use super::{
-    exits, judge, Action, Branch, Commitment, Condition, Contract, Event, Expression, Made, Node,
-    Part, Place, Reply, Row, Sheet, ALL_ROWS, ROWS,
+    exits, judge, reached, run_to, Action, Branch, Commitment, Condition, Contract, Event,
+    Expression, Made, Node, Part, Place, Reply, Row, Sheet, Step, ALL_ROWS, ROWS,
 };
 
 #[cfg(not(wrong_rules))]
@@ -32,6 +32,12 @@ macro_rules! lower {
     };
 }
 
+#[cfg(not(wrong_rules))]
+macro_rules! cause {
+    ($one:expr, $other:expr) => {
+        $one.min($other)
+    };
+}
 #[cfg(not(wrong_rules))]
 macro_rules! asking {
     ($value:expr) => {
@@ -69,6 +75,12 @@ macro_rules! lower {
 }
 
 #[cfg(wrong_rules)]
+macro_rules! cause {
+    ($one:expr, $other:expr) => {
+        wrong::cause($one, $other)
+    };
+}
+#[cfg(wrong_rules)]
 macro_rules! asking {
     ($value:expr) => {
         wrong::ask(|| $value)
@@ -102,6 +114,8 @@ mod switch {
         Fewer(Limit),
         /// Of these two refusals the first, the higher number, is given where both apply.
         Order(u32, u32),
+        /// Of these two causes the first, the higher number, is told where both apply.
+        Causes(u32, u32),
         /// These two powers of 2 are swapped.
         Swapped(Number, usize, usize),
     }
@@ -159,11 +173,21 @@ mod switch {
         }
     }
 
+    /// The lower of two causes, or the higher where just these two are in the wrong order.
+    pub fn cause(one: u32, other: u32) -> u32 {
+        let (lower, higher) = (one.min(other), one.max(other));
+        match on() {
+            Some(Wrong::Causes(first, second)) if (first, second) == (higher, lower) => higher,
+            _ => lower,
+        }
+    }
+
     /// All of them.
     pub fn all() -> Vec<Wrong> {
         let limits = Limit::ALL.iter().map(|(limit, _)| *limit);
         let limits = limits.flat_map(|limit| [Wrong::More(limit), Wrong::Fewer(limit)]);
         let orders = ORDERS.iter().map(|pair| Wrong::Order(pair.0, pair.1));
+        let causes = CAUSES.iter().map(|pair| Wrong::Causes(pair.0, pair.1));
         let rules = Rule::ALL.iter().map(|(rule, _)| Wrong::Rule(*rule));
         let values = CONDITIONS.iter();
         let values = values.flat_map(|rule| [Wrong::Asking(*rule), Wrong::Firing(*rule)]);
@@ -171,11 +195,12 @@ mod switch {
             [
                 Wrong::Swapped(Number::Own, one, other),
                 Wrong::Swapped(Number::Signs, one, other),
+                Wrong::Swapped(Number::Cause, one, other),
                 Wrong::Swapped(Number::Range, one + 1, other + 1),
             ]
         });
-        let all = limits.chain(orders).chain(rules).chain(values);
-        all.chain(numbers).collect()
+        let all = limits.chain(orders).chain(causes).chain(rules);
+        all.chain(values).chain(numbers).collect()
     }
 
     /// The words of a table for one of its names.
@@ -194,6 +219,9 @@ mod switch {
                 Wrong::More(limit) => format!("{}, and one more", words(Limit::ALL, limit)),
                 Wrong::Fewer(limit) => format!("{}, but one", words(Limit::ALL, limit)),
                 Wrong::Order(first, second) => format!("{first} comes before {second}"),
+                Wrong::Causes(first, second) => {
+                    format!("cause {first} comes before cause {second}")
+                }
                 Wrong::Swapped(number, one, other) => {
                     format!(
                         "2^{one} and 2^{other} swapped, {}",
@@ -228,6 +256,7 @@ mod switch {
         Wrong::Rule(Rule::BranchesByDefinition),
         Wrong::Rule(Rule::BranchesForetold),
         Wrong::Rule(Rule::ComparedAsBytes),
+        Wrong::Rule(Rule::StepNodesAsBytes),
     ];
 
     /// Pairs of refusals that may both apply at one field, row or event.
@@ -256,6 +285,9 @@ mod switch {
         (19, 17),
         (19, 18),
     ];
+
+    /// Pairs of causes that may both apply to one branch.
+    const CAUSES: &[(u32, u32)] = &[(2, 1), (3, 1), (4, 1), (5, 1), (3, 2), (5, 2), (5, 3)];
 
     table! { Limit:
         Digits "19 digits of a number"
@@ -289,6 +321,7 @@ mod switch {
         SheetBytes "32,768 bytes of a sheet"
         RequestBytes "65,536 bytes of a request"
         Maker "the participant of `make` below K"
+        Asker "the participant of `why` below K"
         CheckedFor "the participant of `check` below K"
         Rows "512 rows"
         RowNode "the node of a row below the count of nodes"
@@ -322,6 +355,7 @@ mod switch {
     table! { Number:
         Own "the number of a participant whose branch is own"
         Signs "the number of a participant who signs"
+        Cause "the number of a participant besides whom another must sign"
         Range "above the signers of so many participants"
     }
 
@@ -410,6 +444,8 @@ mod switch {
         EmptyLineAllowed "an empty line after that of `make` is no line"
         MoreLinesAfterAll "lines after that of `makeall` are not read"
         EmptyLineAfterAll "an empty line after that of `makeall` is no line"
+        MoreLinesAfterWhy "lines after that of `why` are not read"
+        EmptyLineAfterWhy "an empty line after that of `why` is no line"
         RangeIsSix "what is beyond its range gets 6"
         ThingIsFour "no such thing gets 4"
         EndsNotCounted "a field's comma or LF is not among the sheet's bytes"
@@ -451,6 +487,10 @@ mod switch {
         // the last part
         AllAsksAField "`makeall` has a participant after the word"
         AllTakesAField "`makeall` may have a participant after the word"
+        WhyForNobody "`why` has no participant after the word"
+        WhyMayNameNobody "`why` may have no participant after the word"
+        WhyFieldsIgnored "fields after the participant of `why` are not read"
+        AskerAfterTheLine "6 for the participant of `why` is told after its line is read"
         ValuesOfTheLast "`play` has a value for each secret of the last definition"
         ValueFrom1 "a value is 1 at least"
         NoXInRenewals "`renew` takes no `x`"
@@ -475,6 +515,7 @@ mod switch {
         AnyCondition "own with any condition"
         OnlyT "own only with the one field `t`"
         OnlyTInMake "own for `make` only with the one field `t`"
+        OnlyTInWhy "for `why` only the one field `t` counts"
         OnlyTInCheck "own for `check` only with the one field `t`"
         OnlyTInMakeAll "own for `makeall` only with the one field `t`"
         OnlyTForTheFirst "own to participant 0 of `makeall` only with the one field `t`"
@@ -555,6 +596,74 @@ mod switch {
         AllRowsFirst "`makeall` has all rows before the first last line"
         AllVerdictsOnly "`makeall` prints no rows"
         AllRowsOnly "`makeall` prints rows alone"
+        // why a sheet is frozen
+        WhyForTheFirst "`why` is for participant 0"
+        WhyPrintsRows "`why` prints the rows of a liquid sheet"
+        LiquidUntold "`why` prints nothing for a liquid sheet"
+        FrozenUntold "`why` leaves the `frozen` line out"
+        FrozenLast "the `frozen` line of `why` comes last"
+        FrozenBetween "the `frozen` line of `why` comes between steps and causes"
+        CausesBeforeSteps "causes come before steps"
+        StepsAlone "`why` tells steps and no causes"
+        CausesAlone "`why` tells causes and no steps"
+        StepsToTheFirstPart "a step by an `s` leads to its first contract alone"
+        StepsToTheLastPart "a step by an `s` leads to its last contract alone"
+        StepsFromTheLast "the run begins at the last definition"
+        LastRun "of the shortest runs the last is told"
+        HighestNodeFirst "of the nodes that lead on the highest is stepped from"
+        HighestBranchFirst "of the branches that lead on the highest is stepped by"
+        BranchBeforeNode "steps are compared by branch, then node"
+        StepNodesAsTexts "nodes of steps are compared as texts"
+        StepBranchesAsTexts "branches of steps are compared as texts"
+        StepNodesAsBytes "nodes of steps are compared as bytes"
+        OwnStepsOnly "the run has own steps alone"
+        OpenStepsOnly "the run has steps with opening time 0 alone"
+        UnsignedStepsOnly "the run has steps that nobody signs alone"
+        NoStepsByRenewals "the run has no renewals"
+        NoFalseSteps "the run has no steps that are never true"
+        AnyRun "the first run is told, shortest or not"
+        RunFromTheEnd "runs are compared from their last step on"
+        RunByNodes "runs are compared by their nodes, then by their branches"
+        RunToTheNearest "the run leads to the nearest node without exit"
+        FirstStepUntold "the run is told from its second step on"
+        LastStepUntold "the run is told without its last step"
+        StepsBackwards "the run is told from its last step to its first"
+        StepFromTheFrozen "the run has a step from the frozen node too"
+        StepFromTheRoot "the run to a frozen root has a step"
+        StepsNameTheNext "a step names the node that it leads to"
+        StepsByDefinition "nodes of steps count anew in each definition"
+        StepNodesFrom1 "nodes of steps count from 1"
+        StepBranchesFrom1 "branches of steps count from 1"
+        CauseByDefinition0 "for cause 2 the owners of secrets are those of definition 0"
+        AllLackExits "cause 5 if all contracts of the branch lack an exit"
+        FirstLacksAnExit "cause 5 if the first contract of the branch lacks an exit"
+        LastLacksAnExit "cause 5 if the last contract of the branch lacks an exit"
+        RenewalsAreNoCause "a renewal has no cause 4"
+        LastCause "the highest cause that applies is told"
+        SignedAlongIsNoCause "no cause 1 where P signs too"
+        OwnSignatureIsACause "cause 1 where P alone signs"
+        SignersOfRenewalsAreNoCause "no cause 1 for a `g`"
+        SignersOfSplitsAreNoCause "no cause 1 for an `s`"
+        SignersOfRevealsAreNoCause "no cause 1 for an `r`"
+        SignersAreNoCause "no cause 1"
+        OwnSecretsAreACause "cause 2 for P's own secrets too"
+        NamedSecretsOnly "cause 2 only for a secret that the condition names"
+        UnnamedSecretsOnly "cause 2 only for a secret that the condition doesn't name"
+        AllSecretsAnothers "cause 2 only if all secrets are others'"
+        FirstSecretAnothers "cause 2 only if the first secret is another's"
+        LastSecretAnothers "cause 2 only if the last secret is another's"
+        SecretsAreNoCause "no cause 2"
+        FalseIsNoCause "no cause 3 for a condition that names no secret and is false"
+        NamingIsNoCause "no cause 3 for a condition that names a secret"
+        OtherThanTIsACause "cause 3 for every condition but the one field `t`"
+        ConditionsAreNoCause "no cause 3"
+        CausesOfTheRoot "causes are told of the root's branches"
+        CauseOfTheNext "each branch has the cause of the next"
+        CausesFrom1 "branches with their causes count from 1"
+        CausesOneLess "causes count from 0"
+        CausesFalling "causes are told by falling number of their branch"
+        CauseOfTheFirst "only the first branch's cause is told"
+        CausesButTheLast "the last branch's cause is not told"
         // rows
         AllRowsAccepted "all rows are accepted"
         AllRowsDeclined "all rows are declined"
@@ -782,6 +891,7 @@ mod switch {
         FewPlacesByCount "`makeall` asks for 512 places for each of its participants"
         FewPlacesTaken "`makeall` asks for 512 places"
         FewPlacesForAnyWord "every word asks for 8,192 places"
+        FewPlacesForWhy "`why` asks for 8,192 places"
         FewPlacesAtTheWord "too few places are told at the word `makeall`"
         PlacesFromTheFirst "each participant's rows stand from place 0 on"
         PlacesBackwards "the last participant's rows stand first"
@@ -789,6 +899,10 @@ mod switch {
         PlacesByNodes "each participant has as many places as there are nodes"
         PlacesTogether "rows of `makeall` stand one behind the other"
         HeldFalling "the row buffer has the rows of `make` by falling node number"
+        WhyHoldsRows "the row buffer has the rows of a liquid sheet after `why`"
+        WhyRowsKept "after `why` the rows keep what they held"
+        WhyLiquidRowsKept "after `why` of a liquid sheet the rows keep what they held"
+        WhyPlacesKept "after `why` only 512 places are cleared"
         FrozenWithoutPlaces "a participant with `frozen` has no places"
         FrozenHoldsRows "a participant with `frozen` has the rows there are"
         FrozenClearsAll "one `frozen` of `makeall` clears all places"
@@ -1262,7 +1376,106 @@ pub fn liquid_before(answers: &[Made], participant: usize) -> usize {
     earlier.filter(|(_, rows)| !rows.is_empty()).count()
 }
 
+// `why`.
+
+/// The run that a walk finds which takes the first branch and the first contract that lead on at all.
+pub fn any_run(sheet: &Sheet, goal: usize) -> Vec<Step> {
+    fn walk(sheet: &Sheet, node: usize, goal: usize, seen: &mut Vec<usize>) -> Option<Vec<Step>> {
+        if node == goal {
+            return Some(Vec::new());
+        }
+        if seen.contains(&node) {
+            return None;
+        }
+        seen.push(node);
+        for (number, branch) in sheet.nodes[node].branches.iter().enumerate() {
+            for next in sheet.replaced_by(branch) {
+                if let Some(rest) = walk(sheet, next, goal, seen) {
+                    return Some([vec![(node, number)], rest].concat());
+                }
+            }
+        }
+        None
+    }
+    walk(sheet, sheet.definitions[0].root, goal, &mut Vec::new()).unwrap_or_default()
+}
+
+/// Of the shortest runs the first when compared from the last step on.
+pub fn run_from_the_end(sheet: &Sheet, goal: usize) -> Vec<Step> {
+    let root = sheet.definitions[0].root;
+    let length = |node: usize| run_to(sheet, node, |_, _| true).len();
+    let mut run = Vec::new();
+    let mut last = goal;
+    while last != root {
+        let leads = |node: usize, number: usize| {
+            let branch = &sheet.nodes[node].branches[number];
+            sheet.replaced_by(branch).contains(&last)
+        };
+        let left = length(last) - 1;
+        let nodes = (0..sheet.nodes.len())
+            .filter(|node| (*node == root || length(*node) > 0) && length(*node) == left);
+        let mut steps = nodes.flat_map(|node| {
+            let numbers = 0..sheet.nodes[node].branches.len();
+            numbers.map(move |number| (node, number))
+        });
+        let Some(step) = steps.find(|(node, number)| leads(*node, *number)) else {
+            break;
+        };
+        run.insert(0, step);
+        last = step.0;
+    }
+    run
+}
+
+/// Of the shortest runs the first when compared by all nodes, then by all branches.
+pub fn run_by_nodes(sheet: &Sheet, away: &[Option<usize>]) -> Vec<Step> {
+    let mut run = Vec::new();
+    let mut node = sheet.definitions[0].root;
+    while let Some(after) = away[node].and_then(|steps| steps.checked_sub(1)) {
+        let branches = sheet.nodes[node].branches.iter().enumerate();
+        let steps = branches.flat_map(|(number, branch)| {
+            let next = sheet.replaced_by(branch).into_iter();
+            next.map(move |next| (next, number))
+        });
+        let Some((next, number)) = steps.filter(|(next, _)| away[*next] == Some(after)).min()
+        else {
+            break;
+        };
+        run.push((node, number));
+        node = next;
+    }
+    run
+}
+
+/// The shortest of the runs to reached nodes without exit.
+pub fn run_to_the_nearest(sheet: &Sheet, participant: usize) -> Vec<Step> {
+    let (exits, reached) = (exits(sheet, participant), reached(sheet));
+    let stuck = (0..sheet.nodes.len()).filter(|node| reached[*node] && exits[*node].is_none());
+    let runs = stuck.map(|node| run_to(sheet, node, |_, _| true));
+    runs.min_by_key(Vec::len).unwrap_or_default()
+}
+
+/// Each step with the node of the next one.
+pub fn name_the_next(run: &mut [Step], goal: usize) {
+    for place in 0..run.len() {
+        run[place].0 = run.get(place + 1).map_or(goal, |next| next.0);
+    }
+}
+
+/// Each node as its definition counts it.
+pub fn count_by_definition(run: &mut [Step], sheet: &Sheet) {
+    for (node, _) in run {
+        *node -= sheet.definitions[sheet.nodes[*node].definition].root;
+    }
+}
+
 // Lent buffers.
+
+/// Is this a `why`?
+pub fn asks_why(request: &[u8]) -> bool {
+    let mut lines = request.split(|byte| *byte == b'\n');
+    lines.any(|line| line.starts_with(b"why,"))
+}
 
 /// Is a line of the request `makeall`, and are there too few places for it?
 pub fn few_for_all(request: &[u8], places: usize) -> bool {

@@ -10,6 +10,7 @@ use Rattle.bitml.proofs.Published.{make-is, published}
 use Rattle.bitml.proofs.Sorting.{sorted-keeps, sorted-accepted}
 use Rattle.bitml.proofs.Ruling.{make-is-published, sorted-made}
 use Rattle.bitml.proofs.Liquidity.{liquidity}
+use Rattle.bitml.proofs.Why.{why}
 
 pub demands : Demands
 demands =
@@ -28,4 +29,5 @@ demands =
       sorted-made = sorted-made;
       liquidity = liquidity;
       published = λ s wf p. published s p wf;
+      why = why;
     }

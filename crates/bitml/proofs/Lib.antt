@@ -21,3 +21,6 @@ pub mod Formed
 pub mod Bound
 pub mod Counting
 pub mod Balance
+pub mod Shortest
+pub mod Causes
+pub mod Why

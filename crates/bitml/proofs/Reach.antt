@@ -106,19 +106,21 @@ module _ (s : Sheet) where
       let v = any-mem (eqb n) (next s (branchAt s m (w .0) .action)) (w .2) in
       next-reached m (w .0) n (w .1) (subst (λ a. List·Memᴰ a (next s (branchAt s m (w .0) .action))) (sym (eqb-true n (v .0) (v .2))) (v .1)) r
 
-  marked-reached : (k n : ℕ) → getD (rounds s k) n false ≡ true → Reached s n
+  -- what holds of the root, stays, and goes from a node to those that it leads to, holds of every marked node
+  pub marked-all : (Q : ℕ → ℕ → Type 0) → Q 0 (defAt s 0 .root) → ((k n : ℕ) → Q k n → Q (suc k) n)
+      → ((k m n : ℕ) → leads s m n ≡ true → Q k m → Q (suc k) n) → (k n : ℕ) → getD (rounds s k) n false ≡ true → Q k n
   unfolding mark
-  marked-reached zero n e = subst (Reached s) (eqb-true (defAt s 0 .root) n (sym (round-at zero n (marked-in zero n e)) ∙ e)) start-reached
-  marked-reached (suc k) n e = go (or-cases _ _ (sym (round-at (suc k) n (marked-in (suc k) n e)) ∙ e)) (marked-reached k)
+  marked-all Q start stays goes zero n e = subst (Q 0) (eqb-true (defAt s 0 .root) n (sym (round-at zero n (marked-in zero n e)) ∙ e)) start
+  marked-all Q start stays goes (suc k) n e = go (or-cases _ _ (sym (round-at (suc k) n (marked-in (suc k) n e)) ∙ e)) (marked-all Q start stays goes k)
     where
       go : (getD (rounds s k) n false ≡ true) ⊎ (any (λ m. getD (rounds s k) m false & leads s m n) (below N) ≡ true)
-          → ((m : ℕ) → getD (rounds s k) m false ≡ true → Reached s m) → Reached s n
-      go (inl h) f = f n h
-      go (inr h) f = let w = any-mem (λ m. getD (rounds s k) m false & leads s m n) (below N) h in leads-reached (w .0) n (and-r _ _ (w .2)) (f (w .0) (and-l _ _ (w .2)))
+          → ((m : ℕ) → getD (rounds s k) m false ≡ true → Q k m) → Q (suc k) n
+      go (inl h) f = stays k n (f n h)
+      go (inr h) f = let w = any-mem (λ m. getD (rounds s k) m false & leads s m n) (below N) h in goes k (w .0) n (and-r _ _ (w .2)) (f (w .0) (and-l _ _ (w .2)))
 
   pub reached-sound : (n : ℕ) → reached s n ≡ true → Reached s n
   unfolding reached
-  reached-sound n e = marked-reached N n e
+  reached-sound n e = marked-all (λ k n. Reached s n) start-reached (λ k n r. r) (λ k m n l r. leads-reached m n l r) N n e
 
   -- ---- reached nodes are marked
 

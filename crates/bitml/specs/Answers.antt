@@ -11,12 +11,14 @@ use Rattle.bitml.specs.Rows.{Row, rankOf, Fault, check}
 use Rattle.bitml.specs.Rule.{Verdict, liquid, frozen, make}
 use Rattle.bitml.specs.Ledger.{Ledger, Event, stipulated}
 use Rattle.bitml.specs.Limits.{answers, limitedPlay}
+use Rattle.bitml.specs.Why.{Move, stepsTo, causes}
 
 -- "one last part: `make`,P; or `check`,P and .. lines `row` ..; or `play` with a value for each secret .. and event lines"; and
--- "`makeall` takes no field after the word"
+-- "`makeall` takes no field after the word", and "`why`,P"
 pub data Request : Type 0 where
   making : Sheet → ℕ → Request
   makingAll : Sheet → Request
+  explaining : Sheet → ℕ → Request
   checking : Sheet → ℕ → List Row → Request
   playing : Sheet → List (Option ℕ) → List Event → Request
 
@@ -24,6 +26,8 @@ pub data Line : Type 0 where
   rowLine : Row → Line
   liquidLine : ℕ → ℕ → ℕ → Line
   frozenLine : ℕ → ℕ → Line
+  stepLine : Move → Line
+  branchLine : ℕ → ℕ → Line
   refusedLine : ℕ → ℕ → ℕ → Line
   takenLine : Line
   endLine : ℕ → ℕ → List ℕ → Line
@@ -37,10 +41,15 @@ pub data Answer : Type 0 where
 unfoldable pub liquidBy : Sheet → ℕ → List Row → Line
 liquidBy s p R = liquidLine p (length R) (rankOf R (defAt s 0 .root))
 
--- `make`: the rows and the `liquid` line; "`frozen` has participant, node, and is printed without rows"
+-- "the last line that `make` prints": "`frozen` has participant, node"
+abbrev pub verdictLine : Sheet → ℕ → Verdict → Line
+verdictLine s p (liquid R) = liquidBy s p R
+verdictLine s p (frozen n) = frozenLine p n
+
+-- `make`: the rows and the `liquid` line; `frozen` "is printed without rows"
 unfoldable pub madeLines : Sheet → ℕ → Verdict → List Line
-madeLines s p (liquid R) = map rowLine R ++ (liquidBy s p R ∷ [])
-madeLines s p (frozen n) = frozenLine p n ∷ []
+madeLines s p (liquid R) = map rowLine R ++ (verdictLine s p (liquid R) ∷ [])
+madeLines s p (frozen n) = verdictLine s p (frozen n) ∷ []
 
 unfoldable pub madeRows : Verdict → List Row
 madeRows (liquid R) = R
@@ -65,6 +74,16 @@ unfoldable pub madeForAll : Sheet → Answer
 madeForAll s =
     printed (gather (λ p. madeLines s p (make s p)) (below (s .participants))) (gather (λ p. padded (madeRows (make s p))) (below (s .participants)))
 
+-- `why`: "a line `branch`,number,cause for each branch of the frozen node, by rising number", from number k on
+unfoldable pub branchLines : ℕ → List ℕ → List Line
+branchLines k [] = []
+branchLines k (c ∷ cs) = branchLine k c ∷ branchLines (suc k) cs
+
+-- "For a liquid sheet that is all. For a frozen one it adds lines `step`,node,branch .. After that" the lines `branch`
+unfoldable pub whyLines : Sheet → ℕ → Verdict → List Line
+whyLines s p (liquid R) = verdictLine s p (liquid R) ∷ []
+whyLines s p (frozen n) = verdictLine s p (frozen n) ∷ map stepLine (stepsTo s n) ++ branchLines 0 (causes s p n)
+
 -- "`check` prints the `liquid` line or a refusal", at the line of its row; the line of `check` is the one behind the `def` lines
 unfoldable pub checkedBy : Sheet → ℕ → List Row → Fault → Answer
 checkedBy s p R f = cond (eqb (f .number) 0) (printed (liquidBy s p R ∷ []) R) (refused (f .number) (length (s .defs) + 2 + f .place) 0)
@@ -86,9 +105,11 @@ endOf l = endLine (l .time) (sum (map (λ c. cond (c .alive) 1 0) (l .contracts)
 unfoldable pub playLines : Sheet → Ledger → ℕ → List Event → List Line
 playLines s l k es = eventLines k (answers s l es) ++ (endOf (limitedPlay s l es) ∷ [])
 
--- The first event stands two lines behind the `def` lines. "it is wholly zero after `play`": no rows
+-- The first event stands two lines behind the `def` lines. "it is wholly zero after `play`", and after `why`, "and after any later one that
+-- prints no rows, the row buffer is zero": no rows
 unfoldable pub answer : Request → Answer
 answer (making s p) = madeBy s p (make s p)
 answer (makingAll s) = madeForAll s
+answer (explaining s p) = printed (whyLines s p (make s p)) []
 answer (checking s p R) = checkedBy s p R (check s p R)
 answer (playing s vs es) = printed (playLines s (stipulated s vs) (length (s .defs) + 3) es) []

@@ -13,6 +13,7 @@ use Rattle.bitml.specs.Sorting.{sorted}
 use Rattle.bitml.specs.Rule.{rankAt, reached, rowFor, rows, liquid, frozen, make}
 use Rattle.bitml.specs.Promises.{WellFormed}
 use Rattle.bitml.specs.Liquidity.{Liquidity}
+use Rattle.bitml.specs.Why.{Why}
 
 -- "the lowest reached node with no exit"
 pub record Frozen (s : Sheet) (p n : ℕ) : Type 0 where
@@ -74,3 +75,6 @@ pub record Demands : Type 0 where
   -- DEMAND 3, both halves: the claim over every list of events; and on a liquid sheet `make` gives the published rows, which `check` accepts
   pub liquidity : Liquidity
   pub published : (s : Sheet) → WellFormed s → (p : ℕ) → Liquid s p → (make s p ≡ liquid (rows s p)) × (check s p (rows s p) .number ≡ 0)
+  -- "A reader of these lines may rely on each": of the frozen node that `make` names, the steps are a run there, a shortest and the first of
+  -- those; every branch has a cause, which holds, and no lower one does
+  pub why : Why

@@ -10,6 +10,7 @@ pub mod Limits
 pub mod Balance
 pub mod Promises
 pub mod Liquidity
+pub mod Why
 pub mod Demands
 pub mod Answers
 pub mod Stars

@@ -10,7 +10,7 @@ use Rattle.bitml.specs.Sheet.{Sheet, Node, Branch, Action, withdraw, spl
 use Rattle.bitml.specs.Rows.{Row}
 use Rattle.bitml.specs.Ledger.{wait, sign, tell, fire, renew}
 use Rattle.bitml.specs.Promises.{WellFormed}
-use Rattle.bitml.specs.Answers.{Request, making, makingAll, checking, playing, Line, rowLine, liquidLine, frozenLine, refusedLine, takenLine, endLine, Answer, refused, printed, answer}
+use Rattle.bitml.specs.Answers.{Request, making, makingAll, explaining, checking, playing, Line, rowLine, liquidLine, frozenLine, stepLine, branchLine, refusedLine, takenLine, endLine, Answer, refused, printed, answer}
 
 -- ---- the sheets, with K = 2 and one definition
 
@@ -97,6 +97,11 @@ cases =
     ∷ (making (On (equal (number 1) (number 1))) 0, listed (row 0 0 2 ∷ row 1 0 1 ∷ []) (liquidLine 0 2 2))
     ∷ (making (On (less (number 1) (number 1))) 0, printed (frozenLine 0 0 ∷ []) [])
     ∷ (making (On (equal (secret 0) (secret 0))) 0, printed (frozenLine 0 0 ∷ []) [])
+    -- why: ★1, which is liquid, ★6, ★8, and the condition that is false
+    ∷ (explaining T 0, printed (liquidLine 0 2 1 ∷ []) [])
+    ∷ (explaining M 0, printed (frozenLine 0 1 ∷ stepLine (record { node = 0; branch = 0 }) ∷ branchLine 0 2 ∷ []) [])
+    ∷ (explaining D 0, printed (frozenLine 0 0 ∷ branchLine 0 1 ∷ branchLine 1 1 ∷ []) [])
+    ∷ (explaining (On (less (number 1) (number 1))) 0, printed (frozenLine 0 0 ∷ branchLine 0 3 ∷ []) [])
     -- ★10
     ∷ (
       playing T (none ∷ []) (wait 499 ∷ fire 0 1 ∷ wait 1 ∷ fire 0 1 ∷ []),

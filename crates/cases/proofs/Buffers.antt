@@ -12,6 +12,6 @@ buffers-hold =
     record {
       calls =
           cons refl (cons refl (cons refl (cons refl (cons refl (cons refl (cons refl (cons refl (cons refl (cons refl (cons refl (cons refl
-          (cons refl (cons refl (cons refl (cons refl (cons refl (cons refl nil)))))))))))))))));
+          (cons refl (cons refl (cons refl (cons refl (cons refl (cons refl (cons refl (cons refl nil)))))))))))))))))));
       held = cons refl (cons refl (cons refl (cons refl (cons refl (cons refl (cons refl nil))))));
     }

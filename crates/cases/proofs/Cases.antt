@@ -21,6 +21,7 @@ use Rattle.requests.specs.Part as part
 use Rattle.requests.specs.Rows as row-lines
 use Rattle.events.specs.Events as events
 use Rattle.reader.specs.Request as request
+use Rattle.bitml.specs.Why as why
 use Rattle.bitml.specs.Answers as answers
 use Rattle.bitml.specs.Ledger as ledger
 use Rattle.bitml.specs.Limits as limits
@@ -40,6 +41,7 @@ use Rattle.cases.specs.Cases.LastPart as last-part-cases
 use Rattle.cases.specs.Cases.Parties as parties-cases
 use Rattle.cases.specs.Cases.Runs as runs-cases
 use Rattle.cases.specs.Cases.Anyway as anyway-cases
+use Rattle.cases.specs.Cases.Why as why-cases
 use Rattle.cases.specs.Cases.Rows as rows-cases
 use Rattle.cases.specs.Cases.Ledger as ledger-cases
 use Rattle.cases.specs.Cases.Limits as limits-cases
@@ -80,11 +82,12 @@ unfolding allPass printTest laidOut sameText copies byte T M D R N W each tie pr
     definitions.depositsAt definitions.ownerAt definitions.rootAt definitions.ownedAt definitions.defineAt
     line-one.countsAt line-one.lineOneAt
     sheet.beyond sheet.limited sheet.accept sheet.sheetFrom sheet.readSheet
-    part.valueAt part.pastOf part.pastValueAt part.pastValuesAt part.participantAt part.makeAt part.makeAllAt part.checkAt part.playAt part.lastPartAt
+    part.valueAt part.pastOf part.pastValueAt part.pastValuesAt part.participantAt part.lastParticipantAt part.makeAt part.makeAllAt part.whyAt part.checkAt part.playAt part.lastPartAt
     row-lines.rowNumbersAt row-lines.rowAt row-lines.noRoomAt row-lines.withLine row-lines.rowsFrom row-lines.rowsAt
     events.pairAt events.afterPair events.lastPairAt events.waitAt events.signAt events.tellAt events.fireAt events.valuesFrom events.valuesAt events.renewAt events.eventAt events.nextOf events.eventsFrom events.eventsAt
     request.refusedAt request.fromRows request.fromLines request.fromPart request.fromSheet request.readRequest
-    answers.liquidBy answers.madeLines answers.madeRows answers.madeBy answers.padded answers.madeForAll answers.checkedBy answers.eventLine answers.eventLines answers.endOf answers.playLines answers.answer ledger.refusal ledger.after ledger.stipulated limits.depositsTaken limits.within limits.limitedRefusal limits.limitedStep limits.answers limits.limitedPlay values.valueOf values.behind values.valuesOf played-events.eventOf played-events.eventsUpTo played-events.eventsOf
+    why.near why.lowest why.nodeToward why.branchToward why.trail why.distance why.stepsTo why.ownTests why.clear why.failing why.cause why.causes
+    answers.liquidBy answers.madeLines answers.madeRows answers.madeBy answers.padded answers.madeForAll answers.branchLines answers.whyLines answers.checkedBy answers.eventLine answers.eventLines answers.endOf answers.playLines answers.answer ledger.refusal ledger.after ledger.stipulated limits.depositsTaken limits.within limits.limitedRefusal limits.limitedStep limits.answers limits.limitedPlay values.valueOf values.behind values.valuesOf played-events.eventOf played-events.eventsUpTo played-events.eventsOf
     _&_ _or_ _⇒_ ask
     runs.countsAlways
     rows.repeated rows.falling rows.rowFault rows.faulty rows.check
@@ -149,6 +152,10 @@ pub anyway-hold : passed anyway-cases.cases ≡ true
 unfolding passed anyway-cases.before anyway-cases.after anyway-cases.beforeTwo anyway-cases.between anyway-cases.make anyway-cases.own anyway-cases.frozen anyway-cases.cases
 anyway-hold = refl
 
+pub why-hold : passed why-cases.cases ≡ true
+unfolding passed why-cases.cases
+why-hold = refl
+
 pub rows-hold : passed rows-cases.cases ≡ true
 unfolding passed rows-cases.below rows-cases.renewed rows-cases.apart rows-cases.cases
 rows-hold = refl
@@ -168,13 +175,14 @@ declined-hold = refl
 pub cases-hold : Cases
 unfolding Cases cases
 cases-hold =
-    all-append (all-append (all-append (all-append (all-append (all-append (all-append (all-append (all-append (all-append (by-test _ tried-hold)
+    all-append (all-append (all-append (all-append (all-append (all-append (all-append (all-append (all-append (all-append (all-append (by-test _ tried-hold)
     (by-test _ sheet-hold))
     (by-test _ conditions-hold))
     (by-test _ last-part-hold))
     (by-test _ parties-hold))
     (by-test _ runs-hold))
     (by-test _ anyway-hold))
+    (by-test _ why-hold))
     (by-test _ rows-hold))
     (by-test _ ledger-hold))
     (by-test _ limits-hold))

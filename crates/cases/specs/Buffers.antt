@@ -33,6 +33,9 @@ cases =
     ∷ (T ++ letters "check,0\nrow,0,1,1\nrow,1,9,1\n", 512, 180224, 6 ∷ 5 ∷ 3 ∷ 0 ∷ 0 ∷ 0 ∷ 0 ∷ 0 ∷ 0 ∷ 0 ∷ 0 ∷ 0 ∷ 0 ∷ [])
     ∷ (T ++ letters "check,0\nrow,0,0,1\nrow,1,0,1\n", 512, 180224, 13 ∷ 4 ∷ 0 ∷ 0 ∷ 0 ∷ 0 ∷ 0 ∷ 0 ∷ 0 ∷ 0 ∷ 0 ∷ 0 ∷ 0 ∷ [])
     ∷ (T ++ letters "check,0\nrow,1,0,1\nrow,0,0,2\n", 512, 180224, 21 ∷ 5 ∷ 0 ∷ 0 ∷ 0 ∷ 0 ∷ 0 ∷ 0 ∷ 0 ∷ 0 ∷ 0 ∷ 0 ∷ 0 ∷ [])
+    -- `why`: "After this word .. the row buffer is zero", also for a liquid sheet; and it asks for 512 places
+    ∷ (T ++ letters "why,0\n", 512, 180224, 0 ∷ 0 ∷ 0 ∷ 13 ∷ 0 ∷ 0 ∷ 0 ∷ 0 ∷ 0 ∷ 0 ∷ 0 ∷ 0 ∷ 0 ∷ [])
+    ∷ (M ++ letters "why,0\n", 512, 180224, 0 ∷ 0 ∷ 0 ∷ 31 ∷ 0 ∷ 0 ∷ 0 ∷ 0 ∷ 0 ∷ 0 ∷ 0 ∷ 0 ∷ 0 ∷ [])
     -- "a lent row buffer under 512", and a text buffer in which not every reply fits
     ∷ (W ++ letters "make,0\n", 511, 180224, 7 ∷ 0 ∷ 0 ∷ 0 ∷ 0 ∷ 0 ∷ 0 ∷ 0 ∷ 0 ∷ 0 ∷ 0 ∷ 0 ∷ 0 ∷ [])
     ∷ (W ++ letters "make,0\n", 512, 180223, 7 ∷ 0 ∷ 0 ∷ 0 ∷ 0 ∷ 0 ∷ 0 ∷ 0 ∷ 0 ∷ 0 ∷ 0 ∷ 0 ∷ 0 ∷ [])

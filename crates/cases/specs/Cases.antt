@@ -7,6 +7,7 @@ pub mod LastPart
 pub mod Parties
 pub mod Runs
 pub mod Anyway
+pub mod Why
 pub mod Rows
 pub mod Ledger
 pub mod Limits
@@ -22,6 +23,7 @@ use Rattle.cases.specs.Cases.LastPart as last-part
 use Rattle.cases.specs.Cases.Parties as parties
 use Rattle.cases.specs.Cases.Runs as runs
 use Rattle.cases.specs.Cases.Anyway as anyway
+use Rattle.cases.specs.Cases.Why as why
 use Rattle.cases.specs.Cases.Rows as rows
 use Rattle.cases.specs.Cases.Ledger as ledger
 use Rattle.cases.specs.Cases.Limits as limits
@@ -29,7 +31,7 @@ use Rattle.cases.specs.Cases.Declined as declined
 
 unfoldable pub cases : List form.Case
 cases =
-    tried.cases ++ sheet.cases ++ conditions.cases ++ last-part.cases ++ parties.cases ++ runs.cases ++ anyway.cases ++ rows.cases ++ ledger.cases ++ limits.cases ++ declined.cases
+    tried.cases ++ sheet.cases ++ conditions.cases ++ last-part.cases ++ parties.cases ++ runs.cases ++ anyway.cases ++ why.cases ++ rows.cases ++ ledger.cases ++ limits.cases ++ declined.cases
 
 -- THE PROPOSITION: for each request of the list its text is printed
 unfoldable pub Cases : Type 0

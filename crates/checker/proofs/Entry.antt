@@ -12,17 +12,17 @@ use native.Mathlib.Decide.{decLe}
 use Rattle.bitml.specs.Lists.{_&_, ask}
 use Rattle.bitml.specs.Sheet.{Sheet}
 use Rattle.bitml.specs.Rows as bitml
-use Rattle.bitml.specs.Answers.{making, makingAll, checking, playing, Answer, refused, printed, answer}
+use Rattle.bitml.specs.Answers.{makingAll, Answer, refused, printed, answer}
 use Rattle.tables.specs.Entries.{held, people, tableLong}
-use Rattle.tables.specs.SheetOf.{sheetIn, nodeEntryAt, defEntryAt}
+use Rattle.tables.specs.SheetOf.{nodeEntryAt}
 use Rattle.tables.proofs.Laws.{firstOf-getD}
 use Rattle.tables.proofs.Held.{node-held}
 use Rattle.requests.specs.Rows.{RowFits, countIn, row, rowIn, rowsOf}
 use Rattle.requests.proofs.Laws.{rows-length}
 use Rattle.reader.specs.declared.Request.{Request}
 use Rattle.reader.specs.declared.Request.the-variants as code
-use Rattle.reader.specs.Request.{readRequest, answered, make, makeAll, check, play}
-use Rattle.promises.specs.Parts.{PlayPromise, PartPromise}
+use Rattle.reader.specs.Request.{LastPart, request, readRequest, answered, makeAll, check}
+use Rattle.promises.specs.Parts.{PartPromise}
 use Rattle.promises.specs.Texts.{PromisedWhole}
 use Rattle.promises.proofs.Whole.{promised-whole}
 use Rattle.sheets.specs.Ready.{Ready}
@@ -33,9 +33,7 @@ use Rattle.exits.proofs.Buffer.{flat-length}
 use Rattle.lent.specs.Structs.{structs}
 use Rattle.lent.proofs.Structs.{structs-filled, structs-cleared}
 use Rattle.replies.specs.Answer.{numbersOf, Gives, leastText}
-use Rattle.plays.specs.Values.{valuesOf}
-use Rattle.plays.specs.Events.{eventsOf}
-use Rattle.checker.specs.Entry.{placesOfAll, answerForAll, answerFor, judged, early, answerTo, placesOf}
+use Rattle.checker.specs.Entry.{placesOfAll, answerForAll, judged, early, answerTo, placesOf}
 use Rattle.checker.specs.Lending.{numbersOfAll, Wide}
 
 -- ---- what is known of the table t and the row buffer u after reading
@@ -53,58 +51,34 @@ row-fits t u n i h f =
     }
 
 module _ (s t u : List ℕ) (x : Request) (read : answered x t u ≡ readRequest s) where
-  pub ready-make : (p : ℕ) → x ≡ code.Make p → tableLong ≤ length t → Ready t × (p < people t)
-  unfolding answered PromisedWhole PartPromise
-  ready-make p e long =
-      let k = promised-whole s (people t) (held t) (make p) (sym (ap (λ y. answered y t u) (sym e) ∙ read)) in
+  -- the request is that of the last part l
+  read-as : (y : Request) (l : LastPart) → x ≡ y → answered y t u ≡ request (people t) (held t) l → readRequest s ≡ request (people t) (held t) l
+  read-as y l e q = sym (ap (λ z. answered z t u) (sym e) ∙ read) ∙ q
+
+  -- so the table keeps the promises of a sheet, and l that of its word
+  pub ready-by : (y : Request) (l : LastPart) → x ≡ y → answered y t u ≡ request (people t) (held t) l → tableLong ≤ length t → Ready t × PartPromise s (people t) (held t) l
+  unfolding PromisedWhole
+  ready-by y l e q long =
+      let k = promised-whole s (people t) (held t) l (read-as y l e q) in
       (record { long = long; promises = k .0 }, k .1)
 
   pub ready-check : (p n : ℕ) → x ≡ code.Check p n → tableLong ≤ length t → 1536 ≤ length u → Ready t × (p < people t) × RowsFit t u n
-  unfolding answered PromisedWhole PartPromise
+  unfolding answered PartPromise
   ready-check p n e long wide =
-      let k = promised-whole s (people t) (held t) (check p (rowsOf n u)) (sym (ap (λ y. answered y t u) (sym e) ∙ read)) in
+      let k = ready-by (code.Check p n) (check p (rowsOf n u)) e refl long in
       let l = rows-length n u in (
-        record { long = long; promises = k .0 },
+        k .0,
         k .1 .0,
         record { few = omega (arith, k .1 .1 .few); long = omega (arith, k .1 .1 .few); each = λ i h. row-fits t u n i h (k .1 .1 .each i (omega arith)) },
       )
 
-  pub ready-play : (v e : ℕ) → x ≡ code.Play v e → tableLong ≤ length t → Ready t × PlayPromise s (people t) (held t) v e
-  unfolding answered PromisedWhole PartPromise
-  ready-play v e h long =
-      let k = promised-whole s (people t) (held t) (play v e) (sym (ap (λ y. answered y t u) (sym h) ∙ read)) in
-      (record { long = long; promises = k .0 }, k .1)
-
   pub ready-all : x ≡ code.MakeAll → tableLong ≤ length t → Ready t × ((rows n : ℕ) → Wide s rows n → placesOfAll ≤ rows → numbersOfAll ≤ n)
-  unfolding answered PromisedWhole Wide
-  ready-all e long =
-      let q = sym (ap (λ y. answered y t u) (sym e) ∙ read) in (
-        record { long = long; promises = promised-whole s (people t) (held t) makeAll q .0 },
-        λ rows n w. w (people t) (held t) q,
-      )
+  unfolding answered Wide
+  ready-all e long = (ready-by code.MakeAll makeAll e refl long .0, λ rows n w. w (people t) (held t) (read-as code.MakeAll makeAll e refl))
 
   -- the answer, by what was read
-  module _ (rows : ℕ) {n m : ℕ} {r : Reply} {v b : List ℕ} where
-    pub judged-make : (p : ℕ) → x ≡ code.Make p → Gives (answer (making (sheetIn t) p)) n m r v b → Gives (judged s rows (readRequest s)) n m r v b
-    unfolding answered judged answerFor
-    judged-make p e g = subst (λ w. Gives (judged s rows w) n m r v b) (ap (λ y. answered y t u) (sym e) ∙ read) g
-
-    pub judged-all : x ≡ code.MakeAll → Gives (answerForAll rows (sheetIn t)) n m r v b → Gives (judged s rows (readRequest s)) n m r v b
-    unfolding answered judged answerFor
-    judged-all e g = subst (λ w. Gives (judged s rows w) n m r v b) (ap (λ y. answered y t u) (sym e) ∙ read) g
-
-    pub judged-check : (p k : ℕ) → x ≡ code.Check p k → Gives (answer (checking (sheetIn t) p (rowsOf k u))) n m r v b → Gives (judged s rows (readRequest s)) n m r v b
-    unfolding answered judged answerFor
-    judged-check p k e g = subst (λ w. Gives (judged s rows w) n m r v b) (ap (λ y. answered y t u) (sym e) ∙ read) g
-
-    pub judged-play : (w e : ℕ) → x ≡ code.Play w e
-        → Gives (answer (playing (sheetIn t) (valuesOf s w (defEntryAt (held t) 0 .secrets)) (eventsOf s (people t) e))) n m r v b → Gives (judged s rows (readRequest s)) n m r v b
-    unfolding answered judged answerFor
-    judged-play w e h g = subst (λ y. Gives (judged s rows y) n m r v b) (ap (λ y. answered y t u) (sym h) ∙ read) g
-
-    pub judged-refused : (i l f : ℕ) → x ≡ code.Refused i l f → Gives (refused i l f) n m r v b → Gives (judged s rows (readRequest s)) n m r v b
-    unfolding answered judged
-    judged-refused i l f e g = subst (λ w. Gives (judged s rows w) n m r v b) (ap (λ y. answered y t u) (sym e) ∙ read) g
+  pub judged-by : (rows : ℕ) {n m : ℕ} {r : Reply} {v b : List ℕ} (y : Request) → x ≡ y → Gives (judged s rows (answered y t u)) n m r v b → Gives (judged s rows (readRequest s)) n m r v b
+  judged-by rows {n} {m} {r} {v} {b} y e g = subst (λ w. Gives (judged s rows w) n m r v b) (ap (λ z. answered z t u) (sym e) ∙ read) g
 
 -- ---- before reading
 

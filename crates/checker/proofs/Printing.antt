@@ -17,7 +17,7 @@ use Rattle.replies.specs.declared.Reply.{Reply}
 use Rattle.texts.specs.Wrote.{Wrote}
 use Rattle.texts.specs.Text.{lineText, linesText, fields, line}
 use Rattle.texts.proofs.Writing.{wrote-none, drop-zeros}
-use Rattle.bitml.specs.Answers.{making, makingAll, checking, playing, refusedLine, Line, rowLine, liquidLine, frozenLine, takenLine, endLine, Answer, refused, printed, liquidBy, madeLines, madeBy, madeForAll, checkedBy, eventLines, endOf, playLines, answer}
+use Rattle.bitml.specs.Answers.{making, makingAll, explaining, checking, playing, refusedLine, Line, rowLine, liquidLine, frozenLine, stepLine, branchLine, takenLine, endLine, Answer, refused, printed, liquidBy, madeLines, madeBy, madeForAll, whyLines, checkedBy, eventLines, endOf, playLines, answer}
 use Rattle.replies.specs.Answer.{replyOf, bytesOf}
 use Rattle.bitml.specs.Sheet.{Sheet}
 use Rattle.bitml.specs.Ledger.{Event, stipulated}
@@ -63,6 +63,16 @@ unfolding madeLines
 made-ended s p (liquid R) = record { before = map rowLine R; last = liquidBy s p R; is = refl }
 made-ended s p (frozen n) = record { before = []; last = frozenLine p n; is = refl }
 
+-- and why it is so, as any lines do that begin with one
+some-ended : (l : Line) (ls : List Line) → Ended (l ∷ ls)
+some-ended l [] = record { before = []; last = l; is = refl }
+some-ended l (k ∷ ls) = let e = some-ended k ls in record { before = l ∷ e .before; last = e .last; is = ap (λ xs. l ∷ xs) (e .is) }
+
+why-ended : (s : Sheet) (p : ℕ) (v : Verdict) → Ended (whyLines s p v)
+unfolding whyLines
+why-ended s p (liquid R) = some-ended _ _
+why-ended s p (frozen n) = some-ended _ _
+
 ended-says : (ls : List Line) (R : List bitml.Row) → Ended ls → Says (printed ls R)
 ended-says ls R e = subst (λ xs. Says (printed xs R)) (sym (e .is)) (lines (e .before) (e .last) R)
 
@@ -98,6 +108,10 @@ say-all n s h = go (leb placesOfAll n)
     go true = ended-says _ _ (all-ended s (s .participants) h)
     go false = refusal 7 0 0
 
+say-explaining : (s : Sheet) (p : ℕ) → Says (answer (explaining s p))
+unfolding answer
+say-explaining s p = ended-says _ _ (why-ended s p (make s p))
+
 say-checking : (s : Sheet) (p : ℕ) (R : List bitml.Row) → Says (answer (checking s p R))
 unfolding answer
 say-checking s p R = checked-says s p R (check s p R)
@@ -110,6 +124,7 @@ judged-says : (s : List ℕ) (n : ℕ) (w : Reading) → readRequest s ≡ w →
 unfolding judged answerFor sheetOf PromisedWhole
 judged-says s n (request K E (part.make p)) e = say-making (sheetOf K E) p
 judged-says s n (request K E part.makeAll) e = say-all n (sheetOf K E) (promised-whole s K E part.makeAll e .0 .limits .people .0)
+judged-says s n (request K E (part.why p)) e = say-explaining (sheetOf K E) p
 judged-says s n (request K E (part.check p R)) e = say-checking (sheetOf K E) p R
 judged-says s n (request K E (part.play v z)) e = say-playing (sheetOf K E) (valuesOf s v (defEntryAt E 0 .secrets)) (eventsOf s K z)
 judged-says s n (unread i l f) e = refusal i l f
@@ -133,6 +148,8 @@ unfolding lineText
 text-some (rowLine r) = line-some _ _
 text-some (liquidLine p n k) = line-some _ _
 text-some (frozenLine p n) = line-some _ _
+text-some (stepLine m) = line-some _ _
+text-some (branchLine b c) = line-some _ _
 text-some (refusedLine n l f) = line-some _ _
 text-some takenLine = line-some _ _
 text-some (endLine t n ps) = line-some _ _

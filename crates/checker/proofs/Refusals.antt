@@ -15,13 +15,13 @@ use Rattle.bitml.specs.Sheet.{Sheet}
 use Rattle.bitml.specs.Rows as rows
 use Rattle.bitml.specs.Rows.{Row, Wrong, missing, foreign, low, FaultAt, twice, fall, rootless, row}
 use Rattle.bitml.specs.Ledger.{Event}
-use Rattle.bitml.specs.Answers.{liquidBy, Answer, refused, printed, making, checking, playing, madeBy, madeForAll, checkedBy, answer}
+use Rattle.bitml.specs.Answers.{liquidBy, Answer, refused, printed, making, explaining, checking, playing, madeBy, madeForAll, checkedBy, answer}
 use Rattle.bitml.proofs.Lists.{and-no, and-false, and-i}
 use Rattle.bitml.proofs.Demands.{demands}
 use Rattle.fields.proofs.Ranges.{cond-cases}
 use Rattle.tables.specs.Entries.{Entries}
 use Rattle.tables.specs.SheetOf.{sheetOf, defEntryAt}
-use Rattle.reader.specs.Request.{Reading, request, LastPart, make, makeAll, check, play, readRequest}
+use Rattle.reader.specs.Request.{Reading, request, LastPart, make, makeAll, why, check, play, readRequest}
 use Rattle.reader.specs.Request.{refused as unread}
 use Rattle.promises.specs.Refusals.{ReadNumber, OfReadings}
 use Rattle.promises.proofs.Refusals.{of-readings}
@@ -63,6 +63,7 @@ module _ (s : List ℕ) (places text : ℕ) where
 unfoldable partWhy : LastPart → Why
 partWhy makeAll = fewPlaces
 partWhy (make p) = rowsRefused
+partWhy (why p) = rowsRefused
 partWhy (check p R) = rowsRefused
 partWhy (play v e) = rowsRefused
 
@@ -147,6 +148,10 @@ module _ (s : List ℕ) (places text : ℕ) where
   unfolding answer madeBy Reasoned
   made S p = tt
 
+  explained : (S : Sheet) (p : ℕ) → Reasoned (answer (explaining S p))
+  unfolding answer Reasoned
+  explained S p = tt
+
   made-for-all : (K : ℕ) (E : Entries) → Room s places text → readRequest s ≡ request K E makeAll → Reasoned (answerForAll places (sheetOf K E))
   unfolding answer madeForAll Reasoned
   made-for-all K E r e =
@@ -173,6 +178,7 @@ module _ (s : List ℕ) (places text : ℕ) where
   unfolding judged answerFor Reasoned
   reading r (request K E (make p)) e = made (sheetOf K E) p
   reading r (request K E makeAll) e = made-for-all K E r e
+  reading r (request K E (why p)) e = explained (sheetOf K E) p
   reading r (request K E (check p R)) e = checked K p E R r e
   reading r (request K E (play v z)) e = played (sheetOf K E) (valuesOf s v (defEntryAt E 0 .secrets)) (eventsOf s K z)
   reading r (unread n l f) e = (notRead, misread r e)

@@ -1,21 +1,22 @@
 -- What is proved of the reply to every request: demands 2 and 3, from the bytes on. Assumes nothing.
 use mathlib.Core.Path.{_≡_}
 use mathlib.Core.Logic.{_⊎_}
-use Prim.Native.Nat.{ℕ, _+_, _≤_}
+use Prim.Native.Nat.{ℕ, _+_, _≤_, _<_}
 use mathlib.Core.Option.{Option}
 use mathlib.Core.List.{List, [], _∷_, _++_, map}
-use lib.ListN.{length}
-use Rattle.bitml.specs.Sheet.{Sheet}
+use lib.ListN.{length, getD}
+use Rattle.bitml.specs.Sheet.{Sheet, defAt, branchesAt, branchAt}
 use Rattle.bitml.specs.Runs.{Liquid}
 use Rattle.bitml.specs.Rows.{Row, Accepted, FaultAt}
 use Rattle.bitml.specs.Rule.{rows}
 use Rattle.bitml.specs.Ledger.{Event, play, stipulated}
 use Rattle.bitml.specs.Liquidity.{Numbers, NumbersAlong, NoneLive, liveRank, Way}
-use Rattle.bitml.specs.Answers.{rowLine, frozenLine, Answer, refused, printed, liquidBy}
+use Rattle.bitml.specs.Why.{Move, FirstShortest, LowestCause}
+use Rattle.bitml.specs.Answers.{Line, rowLine, frozenLine, stepLine, branchLines, Answer, refused, printed, liquidBy}
 use Rattle.bitml.specs.Demands.{Frozen, Published}
 use Rattle.tables.specs.Entries.{Entries}
 use Rattle.tables.specs.SheetOf.{sheetOf}
-use Rattle.reader.specs.Request.{request, make, check, readRequest}
+use Rattle.reader.specs.Request.{request, make, why, check, readRequest}
 use Rattle.replies.specs.Answer.{leastText}
 use Rattle.checker.specs.Entry.{answerTo}
 
@@ -49,6 +50,38 @@ pub record MadeFrozen (S : Sheet) (p : ℕ) (a : Answer) : Type 0 where
   -- Demand 2: the lowest reached node that has no exit
   pub frozen : Frozen S p node
 
+-- ---- `why`,P
+
+-- A liquid sheet
+pub record WhyLiquid (S : Sheet) (p : ℕ) (a : Answer) : Type 0 where
+  -- "For a liquid sheet that is all", and "the row buffer is zero"
+  pub answer : a ≡ printed (liquidBy S p (rows S p) ∷ []) []
+  pub liquid : Liquid S p
+
+-- Any other sheet
+pub record WhyFrozen (S : Sheet) (p : ℕ) (a : Answer) : Type 0 where
+  pub node : ℕ
+  pub steps : List Move
+  pub causes : List ℕ
+  -- The line that `make` prints, the lines `step`, the lines `branch`
+  pub answer : a ≡ printed (frozenLine p node ∷ map stepLine steps ++ branchLines 0 causes) []
+  pub frozen : Frozen S p node
+  -- "an abstract run from the start to a list that holds the frozen node, with no shorter run doing so. Among the shortest runs it takes the first"
+  pub way : FirstShortest S ((defAt S 0 .root) ∷ []) node steps
+  -- "for each branch of the frozen node"
+  pub each : length causes ≡ length (branchesAt S node)
+  -- "the cause holds, and no lower cause does"
+  pub branch : (b : ℕ) → b < length (branchesAt S node) → LowestCause S p node (branchAt S node b) (getD causes b 0)
+
+-- "prints first the last line that `make` prints": of the answers a to `make`,P and b to `why`,P
+pub record SameVerdict (a b : Answer) : Type 0 where
+  pub line : Line
+  pub before : List Line
+  pub behind : List Line
+  pub held : List Row
+  pub made : a ≡ printed (before ++ (line ∷ [])) held
+  pub told : b ≡ printed (line ∷ behind) []
+
 -- ---- `check`,P with rows R
 
 pub record RowsTaken (S : Sheet) (p : ℕ) (R : List Row) (a : Answer) : Type 0 where
@@ -81,6 +114,14 @@ pub record OfReplies : Type 0 where
   pub making : (s : List ℕ) (places text : ℕ) → Room s places text
       → (K : ℕ) (E : Entries) (p : ℕ) → readRequest s ≡ request K E (make p)
       → MadeRows (sheetOf K E) p (answerTo s places text) ⊎ MadeFrozen (sheetOf K E) p (answerTo s places text)
+  -- "Telling the drafter why": the verdict, the steps and the causes, "A reader of these lines may rely on each"
+  pub explaining : (s : List ℕ) (places text : ℕ) → Room s places text
+      → (K : ℕ) (E : Entries) (p : ℕ) → readRequest s ≡ request K E (why p)
+      → WhyLiquid (sheetOf K E) p (answerTo s places text) ⊎ WhyFrozen (sheetOf K E) p (answerTo s places text)
+  -- and its first line is the last of `make`,P of the same sheet
+  pub same-verdict : (s u : List ℕ) (places text : ℕ) → Room s places text → Room u places text
+      → (K : ℕ) (E : Entries) (p : ℕ) → readRequest s ≡ request K E (make p) → readRequest u ≡ request K E (why p)
+      → SameVerdict (answerTo s places text) (answerTo u places text)
   -- Demand 2, the check of rows, with the first half of demand 3 for the rows that are taken
   pub checking : (s : List ℕ) (places text : ℕ) → Room s places text
       → (K : ℕ) (E : Entries) (p : ℕ) (R : List Row) → readRequest s ≡ request K E (check p R)

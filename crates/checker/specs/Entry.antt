@@ -8,9 +8,9 @@ use Rattle.bitml.specs.Lists.{_&_, ask}
 use Rattle.bitml.specs.Sheet.{Sheet}
 use Rattle.tables.specs.Entries.{Entries}
 use Rattle.tables.specs.SheetOf.{sheetOf, defEntryAt}
-use Rattle.reader.specs.Request.{Reading, request, LastPart, make, makeAll, check, play, readRequest}
+use Rattle.reader.specs.Request.{Reading, request, LastPart, make, makeAll, why, check, play, readRequest}
 use Rattle.reader.specs.Request.{refused as unread}
-use Rattle.bitml.specs.Answers.{refusedLine, making, makingAll, checking, playing, Answer, refused, printed, answer}
+use Rattle.bitml.specs.Answers.{refusedLine, making, makingAll, explaining, checking, playing, Answer, refused, printed, answer}
 use Rattle.texts.specs.Text.{lineText, linesText}
 use Rattle.lent.specs.declared.Row.{Row}
 use Rattle.lent.specs.Structs.{noRow, structOf}
@@ -26,10 +26,11 @@ placesOfAll = 8192
 unfoldable pub answerForAll : ℕ → Sheet → Answer
 answerForAll rows s = cond (leb placesOfAll rows) (answer (makingAll s)) (refused 7 0 0)
 
--- "one last part: `make`,P; or `check`,P ..; or `play` .."; or `makeall`
+-- "one last part: `make`,P; or `check`,P ..; or `play` .."; or `makeall`; or `why`,P
 unfoldable pub answerFor : List ℕ → ℕ → ℕ → Entries → LastPart → Answer
 answerFor s rows K E (make p) = answer (making (sheetOf K E) p)
 answerFor s rows K E makeAll = answerForAll rows (sheetOf K E)
+answerFor s rows K E (why p) = answer (explaining (sheetOf K E) p)
 answerFor s rows K E (check p R) = answer (checking (sheetOf K E) p R)
 answerFor s rows K E (play v e) = answer (playing (sheetOf K E) (valuesOf s v (defEntryAt E 0 .secrets)) (eventsOf s K e))
 

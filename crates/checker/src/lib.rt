@@ -7,6 +7,7 @@ use loading::read_sheet;
 use plays::play_for;
 use reader::Request;
 use reader::read;
+use reasons::why_for;
 use replies::Reply;
 use replies::refuse;
 use requests::MAKEALL;
@@ -94,6 +95,7 @@ fn judged(s: &[u8], room: usize, rows: &mut [usize], text: &mut [u8]) -> Reply
     match r {
         Request::Make(p) => make_for(&t, p, rows, text),
         Request::MakeAll => all_for(&t, room, rows, text),
+        Request::Why(p) => why_for(&t, p, rows, text),
         Request::Check(p, n) => check_for(&t, p, n, rows, text),
         Request::Play(v, e) => play_for(s, v, e, &t, rows, text),
         Request::Refused(n, l, f) => refuse(n, l, f, rows, text),

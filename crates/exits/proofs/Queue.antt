@@ -25,12 +25,12 @@ flag-le x = go (eqb x 0)
     go true = omega arith
     go false = omega arith
 
-flags-le : (M : List ℕ) → sum (map flag M) ≤ length M
+pub flags-le : (M : List ℕ) → sum (map flag M) ≤ length M
 flags-le [] = omega arith
 flags-le (x ∷ M) = omega (arith, flags-le M, flag-le x)
 
 -- where a mark is missing there are fewer marks than places
-room : (M : List ℕ) (m : ℕ) → m < length M → getD M m 0 ≡ 0 → sum (map flag M) < length M
+pub room : (M : List ℕ) (m : ℕ) → m < length M → getD M m 0 ≡ 0 → sum (map flag M) < length M
 room [] m h e = absurd (omega arith)
 room (x ∷ M) zero h e = rw e (omega (arith, flags-le M))
 room (x ∷ M) (suc m) h e = omega (arith, room M m (omega arith) e, flag-le x)

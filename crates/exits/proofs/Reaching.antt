@@ -20,14 +20,14 @@ use Rattle.reader.specs.Promises.{Promises, Inside}
 use Rattle.reader.proofs.Formed.{contract-in, contract-of, well-formed}
 use Rattle.exits.specs.Marks.{DefReached, Marked, BranchLed, NodeLed, DefLed, LedUpTo, Spread, MarksReached}
 
-parts-next : (s : Sheet) (a : Action) (m : ℕ) → List·Memᴰ m (parts a) → List·Memᴰ m (next s a)
+pub parts-next : (s : Sheet) (a : Action) (m : ℕ) → List·Memᴰ m (parts a) → List·Memᴰ m (next s a)
 parts-next s (withdraw p) m h = h
 parts-next s (split qs) m h = h
 parts-next s (reveal js c n) m h = h
 parts-next s (renewAs d) m h = absurd (List·Memᴰ·not-nil h)
 
 -- a branch that renews nothing leads to the contracts in it
-next-parts : (s : Sheet) (E : Entries) (b m : ℕ) → branchEntryAt E b .kind < 3 → List·Memᴰ m (next s (branchOf E b .action)) → List·Memᴰ m (parts (branchOf E b .action))
+pub next-parts : (s : Sheet) (E : Entries) (b m : ℕ) → branchEntryAt E b .kind < 3 → List·Memᴰ m (next s (branchOf E b .action)) → List·Memᴰ m (parts (branchOf E b .action))
 unfolding branchOf actionOf
 next-parts s E b m = go (branchEntryAt E b .kind)
   where

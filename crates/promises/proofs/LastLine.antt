@@ -20,11 +20,11 @@ use Rattle.lines.specs.Sheet.{SheetRead, accepted, readSheet}
 use Rattle.lines.specs.Sheet.{refused as unread}
 use Rattle.requests.specs.declared.Part.{Part}
 use Rattle.requests.specs.declared.Part.the-variants as part
-use Rattle.requests.specs.Part.{participantAt, pastValuesAt, makeAt, makeAllAt, checkAt, playAt, lastPartAt}
+use Rattle.requests.specs.Part.{participantAt, lastParticipantAt, pastValuesAt, makeAt, makeAllAt, whyAt, checkAt, playAt, lastPartAt}
 use Rattle.events.specs.declared.Lines.{Lines}
 use Rattle.events.specs.declared.Lines.the-variants as lines
 use Rattle.events.specs.Events.{eventsAt}
-use Rattle.reader.specs.Request.{make, makeAll, check, play, Reading, request, refused, refusedAt, fromRows, fromLines, fromPart, fromSheet, readRequest}
+use Rattle.reader.specs.Request.{make, makeAll, why, check, play, Reading, request, refused, refusedAt, fromRows, fromLines, fromPart, fromSheet, readRequest}
 
 -- ---- a word
 
@@ -63,6 +63,7 @@ record Line (s : List ℕ) (at : ℕ) : Type 0 where
 unfoldable WhereAll : List ℕ → ℕ → Part → Type 0
 WhereAll s at part.MakeAll = Line s at
 WhereAll s at (part.Make p) = Unit {0}
+WhereAll s at (part.Why p) = Unit {0}
 WhereAll s at (part.Check p e) = Unit {0}
 WhereAll s at (part.Play f e) = Unit {0}
 WhereAll s at (part.Bad n p) = Unit {0}
@@ -74,9 +75,7 @@ module _ (s : List ℕ) (at : ℕ) where
 
   part-make : (people e : ℕ) → WhereAll s at (makeAt s people e)
   unfolding makeAt WhereAll
-  part-make people e =
-      when-read-cases (WhereAll s at) part.Bad (participantAt s people e) _ part-bad λ p f g.
-      cond-cases (WhereAll s at) (ltb f (length s)) (part.Bad 9 f) (part.Make p) (λ b. tt) (λ b. tt)
+  part-make people e = when-read-cases (WhereAll s at) part.Bad (lastParticipantAt s people e) _ part-bad λ p f g. tt
 
   part-all : (e : ℕ) → firstAt s at ≡ got.Value (spelled "makeall") e → WhereAll s at (makeAllAt s e)
   unfolding makeAllAt WhereAll
@@ -84,6 +83,10 @@ module _ (s : List ℕ) (at : ℕ) where
       when-read-cases (WhereAll s at) part.Bad (lineEndAt s e) _ part-bad λ v f g.
       cond-cases (WhereAll s at) (ltb f (length s)) (part.Bad 9 f) part.MakeAll (λ b. tt)
       (λ b. record { end = e; word = h; last = let l = line-end-next s e v f g in omega (arith, ltb-false f (length s) b) })
+
+  part-why : (people e : ℕ) → WhereAll s at (whyAt s people e)
+  unfolding whyAt WhereAll
+  part-why people e = when-read-cases (WhereAll s at) part.Bad (lastParticipantAt s people e) _ part-bad λ p f g. tt
 
   part-check : (people e : ℕ) → WhereAll s at (checkAt s people e)
   unfolding checkAt WhereAll
@@ -102,6 +105,7 @@ module _ (s : List ℕ) (at : ℕ) where
       cond-cases (WhereAll s at) (eqb w (spelled "make")) (makeAt s people e) _ (λ t. part-make people e) λ t.
       cond-cases (WhereAll s at) (eqb w (spelled "makeall")) (makeAllAt s e) _
       (λ t. part-all e (subst (λ v. firstAt s at ≡ got.Value v e) (eqb-true w (spelled "makeall") t) g)) λ t.
+      cond-cases (WhereAll s at) (eqb w (spelled "why")) (whyAt s people e) _ (λ t. part-why people e) λ t.
       cond-cases (WhereAll s at) (eqb w (spelled "check")) (checkAt s people e) _ (λ t. part-check people e) λ t.
       cond-cases (WhereAll s at) (eqb w (spelled "play")) (playAt s secrets e) (part.Bad 3 at) (λ t. part-play secrets e) λ t.
       part-bad 3 at
@@ -131,6 +135,7 @@ line-last s h K at E e l =
 unfoldable ReadAll : List ℕ → Reading → Type 0
 ReadAll s (request K E makeAll) = AllLast s K E
 ReadAll s (request K E (make p)) = Unit {0}
+ReadAll s (request K E (why p)) = Unit {0}
 ReadAll s (request K E (check p R)) = Unit {0}
 ReadAll s (request K E (play v e)) = Unit {0}
 ReadAll s (refused n l f) = Unit {0}
@@ -154,6 +159,7 @@ module _ (s : List ℕ) (K : ℕ) (E : Entries) where
   unfolding fromPart ReadAll WhereAll
   read-part at (part.Make p) f h = tt
   read-part at part.MakeAll f h = f h
+  read-part at (part.Why p) f h = tt
   read-part at (part.Check p e) f h = read-rows p _ _
   read-part at (part.Play v e) f h = read-lines v e (eventsAt s K e)
   read-part at (part.Bad n p) f h = read-refused s n p

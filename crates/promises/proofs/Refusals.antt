@@ -74,6 +74,7 @@ module _ (s : List ℕ) (K : ℕ) (E : Entries) where
   unfolding fromPart PartTold ReadingTold
   from-part (part.Make p) h = tt
   from-part part.MakeAll h = tt
+  from-part (part.Why p) h = tt
   from-part (part.Check p e) h = from-rows p _ (rows-told s (λ n. nodeEntryAt E n .count) (length (E .nodes)) e)
   from-part (part.Play v e) h = from-lines v e (eventsAt s K e) (lines-told s K e)
   from-part (part.Bad n q) h = at-told s n q h

@@ -14,7 +14,7 @@ use Rattle.requests.specs.declared.Part.{Part}
 use Rattle.requests.specs.declared.Part.the-variants as part
 use Rattle.requests.specs.declared.RowLine.{RowLine}
 use Rattle.requests.specs.declared.RowLine.the-variants as line
-use Rattle.requests.specs.Part.{mostValue, valueAt, pastOf, pastValueAt, pastValuesAt, participantAt, makeAt, makeAllAt, checkAt, playAt, lastPartAt}
+use Rattle.requests.specs.Part.{mostValue, valueAt, pastOf, pastValueAt, pastValuesAt, participantAt, lastParticipantAt, makeAt, makeAllAt, whyAt, checkAt, playAt, lastPartAt}
 use Rattle.requests.specs.Rows.{mostRank, mostRows, row, Rows, rowsWith, rowNumbersAt, rowAt, noRoomAt, withLine, rowsFrom, rowsAt}
 use Rattle.events.specs.declared.Event.{Event}
 use Rattle.events.specs.declared.Event.the-variants as event
@@ -65,6 +65,7 @@ module _ (s : List ℕ) where
 unfoldable pub PartTold : Part → Type 0
 PartTold (part.Make p) = Unit {0}
 PartTold part.MakeAll = Unit {0}
+PartTold (part.Why p) = Unit {0}
 PartTold (part.Check p e) = Unit {0}
 PartTold (part.Play v e) = Unit {0}
 PartTold (part.Bad n p) = ReadNumber n
@@ -80,17 +81,25 @@ module _ (s : List ℕ) where
       read-told FieldTold Bad field-bad (below-told s at people) _ λ p e.
       read-told FieldTold Bad field-bad (line-end-told s e) _ λ v f. read
 
+  last-participant-told : (people at : ℕ) → FieldTold (lastParticipantAt s people at)
+  unfolding lastParticipantAt
+  last-participant-told people at =
+      read-told FieldTold Bad field-bad (participant-told people at) _ λ p e.
+      cond-told FieldTold (ltb e (length s)) (Bad 9 e) (Value p e) (unread (due 9 refl refl)) read
+
   make-told : (people at : ℕ) → PartTold (makeAt s people at)
   unfolding makeAt PartTold
-  make-told people at =
-      read-told PartTold part.Bad part-bad (participant-told people at) _ λ p e.
-      cond-told PartTold (ltb e (length s)) (part.Bad 9 e) (part.Make p) (due 9 refl refl) tt
+  make-told people at = read-told PartTold part.Bad part-bad (last-participant-told people at) _ λ p e. tt
 
   make-all-told : (at : ℕ) → PartTold (makeAllAt s at)
   unfolding makeAllAt PartTold
   make-all-told at =
       read-told PartTold part.Bad part-bad (line-end-told s at) _ λ v e.
       cond-told PartTold (ltb e (length s)) (part.Bad 9 e) part.MakeAll (due 9 refl refl) tt
+
+  why-told : (people at : ℕ) → PartTold (whyAt s people at)
+  unfolding whyAt PartTold
+  why-told people at = read-told PartTold part.Bad part-bad (last-participant-told people at) _ λ p e. tt
 
   check-told : (people at : ℕ) → PartTold (checkAt s people at)
   unfolding checkAt PartTold
@@ -108,9 +117,10 @@ module _ (s : List ℕ) where
       read-told PartTold part.Bad part-bad (first-told s at) _ λ w e.
       cond-told PartTold (eqb w (spelled "make")) (makeAt s people e) _ (make-told people e)
       (cond-told PartTold (eqb w (spelled "makeall")) (makeAllAt s e) _ (make-all-told e)
+      (cond-told PartTold (eqb w (spelled "why")) (whyAt s people e) _ (why-told people e)
       (cond-told PartTold (eqb w (spelled "check")) (checkAt s people e) _ (check-told people e)
       (cond-told PartTold (eqb w (spelled "play")) (playAt s secrets e) (part.Bad 3 at) (play-told secrets e)
-      (part-bad 3 at (due 3 refl refl)))))
+      (part-bad 3 at (due 3 refl refl))))))
 
 -- ---- rows
 

@@ -46,6 +46,7 @@ module _ (s : List ℕ) (K : ℕ) (E : Entries) (q : Promises K E) where
   unfolding fromPart Kept PartPromise PartSound
   part-kept (part.Make p) h = (q, h)
   part-kept part.MakeAll h = (q, h)
+  part-kept (part.Why p) h = (q, h)
   part-kept (part.Check p e) h =
       let fit = rows-fit s (λ n. nodeEntryAt E n .count) (length (E .nodes)) e in
       rows-kept p _ _ (h .0) (record { few = fit .0; each = fit .1 })

@@ -11,7 +11,7 @@ use Rattle.requests.specs.Part.{pastValuesAt}
 use Rattle.requests.specs.Rows.{RowFits, row, mostRows}
 use Rattle.events.specs.declared.Lines.the-variants as lines
 use Rattle.events.specs.Events.{eventsAt}
-use Rattle.reader.specs.Request.{LastPart, make, makeAll, check, play}
+use Rattle.reader.specs.Request.{LastPart, make, makeAll, why, check, play}
 
 -- "up to 512 lines `row`,node,branch,rank (1 to 65,535)", of nodes and branches that there are
 pub record RowsPromise (E : Entries) (R : List Row) : Type 0 where
@@ -25,9 +25,10 @@ pub record PlayPromise (s : List ℕ) (K : ℕ) (E : Entries) (v e : ℕ) : Type
   pub inside : e ≤ length s
   pub events : eventsAt s K e ≡ lines.Good
 
--- "one last part: `make`,P; or `check`,P ..; or `play` ..": P is a participant
+-- "one last part: `make`,P; or `check`,P ..; or `play` ..", and `why`,P: P is a participant
 unfoldable pub PartPromise : List ℕ → ℕ → Entries → LastPart → Type 0
 PartPromise s K E (make p) = p < K
 PartPromise s K E makeAll = Unit {0}
+PartPromise s K E (why p) = p < K
 PartPromise s K E (check p R) = (p < K) × RowsPromise E R
 PartPromise s K E (play v e) = PlayPromise s K E v e

@@ -37,11 +37,11 @@ one-element (x ∷ xs) m e h =
     rw (z, y)
 
 module _ (E : Entries) (b m : ℕ) where
-  part-in : m < length (E .nodes) → nodeEntryAt E m .parent ≡ b → List·Memᴰ m (partNumbers E b)
+  pub part-in : m < length (E .nodes) → nodeEntryAt E m .parent ≡ b → List·Memᴰ m (partNumbers E b)
   unfolding partNumbers
   part-in h e = mem-keep (λ n. eqb (nodeEntryAt E n .parent) b) (below (length (E .nodes))) (mem-up 0 (length (E .nodes)) m (omega arith) (omega arith)) (eq-eqb _ _ e)
 
-  in-parts : List·Memᴰ m (partNumbers E b) → (m < length (E .nodes)) × (nodeEntryAt E m .parent ≡ b)
+  pub in-parts : List·Memᴰ m (partNumbers E b) → (m < length (E .nodes)) × (nodeEntryAt E m .parent ≡ b)
   unfolding partNumbers
   in-parts h =
       let z = all-of (keep-imp (λ n. eqb (nodeEntryAt E n .parent) b) (below (length (E .nodes))) (up-mem 0 (length (E .nodes)))) h in
@@ -55,7 +55,7 @@ pub record Contract (E : Entries) (m : ℕ) : Type 0 where
   pub there : place < branchCount E node
   pub part : List·Memᴰ m (parts (branchOf E (branchNumber E node place) .action))
 
-place-of : {x : ℕ} (xs : List ℕ) → List·Memᴰ x xs → (i : ℕ) × (i < length xs) × (getD xs i 0 ≡ x)
+pub place-of : {x : ℕ} (xs : List ℕ) → List·Memᴰ x xs → (i : ℕ) × (i < length xs) × (getD xs i 0 ≡ x)
 place-of xs (List·Memᴰ·head {x = y} {xs = ys} p) = (0, omega arith, sym p)
 place-of xs (List·Memᴰ·tail {x = y} {xs = ys} m) = let w = place-of ys m in (suc (w .0), omega (arith, w .1), w .2)
 
@@ -65,13 +65,11 @@ number-of E b h =
     let n = branchEntryAt E b .node in
     mem-keep (λ c. eqb (branchEntryAt E c .node) n) (below (length (E .branches))) (mem-up 0 (length (E .branches)) b (omega arith) (omega arith)) (eq-eqb n n refl)
 
-count-at : (E : Entries) (n i : ℕ) → i < length (branchNumbers E n) → i < branchCount E n
-unfolding branchCount
-count-at E n i h = h
-
-number-at : (E : Entries) (n i : ℕ) → branchNumber E n i ≡ getD (branchNumbers E n) i 0
-unfolding branchNumber
-number-at E n i = refl
+-- an entry is a branch of the node that it names
+pub branch-place : (E : Entries) (b : ℕ) → b < length (E .branches)
+    → (i : ℕ) × (i < branchCount E (branchEntryAt E b .node)) × (branchNumber E (branchEntryAt E b .node) i ≡ b)
+unfolding branchCount branchNumber
+branch-place E b h = place-of (branchNumbers E (branchEntryAt E b .node)) (number-of E b h)
 
 module _ (K : ℕ) (E : Entries) (ok : Promises K E) where
   pub parts-are-nodes : (b : ℕ) → b < length (E .branches) → parts (branchOf E b .action) ≡ partNumbers E b
@@ -103,6 +101,18 @@ module _ (K : ℕ) (E : Entries) (ok : Promises K E) where
       (λ w. omega (arith, w .there, ok .limits .branches))
       (ok .node n h .place)
 
+  -- whom a branch pays, how many parts it has, its contract or its definition: a number below 512 in each case
+  pub argument-small : (b : ℕ) → b < length (E .branches) → branchEntryAt E b .arg < 512
+  argument-small b h = go (branchEntryAt E b .kind) refl
+    where
+      go : (k : ℕ) → branchEntryAt E b .kind ≡ k → branchEntryAt E b .arg < 512
+      go zero e = omega (arith, ok .branch b h .withdraw e .payee, ok .limits .people .1)
+      go (suc zero) e = let w = ok .branch b h .split e in omega (arith, w .parts, w .few)
+      go (suc (suc zero)) e = omega (arith, ok .branch b h .reveal e .contract, ok .limits .nodes)
+      go (suc (suc (suc k))) e =
+          let z : branchEntryAt E b .kind ≡ 3 = omega (arith, ok .branch b h .kind) in
+          omega (arith, ok .branch b h .renew z .definition, ok .limits .defs .1)
+
   -- a contract m in branch i of node n: it is a later node, of the same definition
   pub contract-in : (n i m : ℕ) → i < branchCount E n → List·Memᴰ m (parts (branchOf E (branchNumber E n i) .action))
       → (n < m) × (m < length (E .nodes)) × (nodeEntryAt E m .definition ≡ nodeEntryAt E n .definition)
@@ -119,14 +129,14 @@ module _ (K : ℕ) (E : Entries) (ok : Promises K E) where
   contract-of m h w =
       let b = nodeEntryAt E m .parent in
       let n = branchEntryAt E b .node in
-      let i = place-of (branchNumbers E n) (number-of E b (w .there)) in
+      let i = branch-place E b (w .there) in
       record {
         node = n;
         place = i .0;
         before = w .later;
-        there = count-at E n (i .0) (i .1);
+        there = i .1;
         part =
-            subst (λ k. List·Memᴰ m (parts (branchOf E k .action))) (sym (number-at E n (i .0) ∙ i .2)) (subst (λ ms. List·Memᴰ m ms) (sym (parts-are-nodes b (w .there))) (part-in E b m h refl));
+            subst (λ k. List·Memᴰ m (parts (branchOf E k .action))) (sym (i .2)) (subst (λ ms. List·Memᴰ m ms) (sym (parts-are-nodes b (w .there))) (part-in E b m h refl));
       }
 
   -- ---- well-formed

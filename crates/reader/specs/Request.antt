@@ -21,10 +21,11 @@ use Rattle.reader.specs.declared.Request.{Request}
 use Rattle.reader.specs.declared.Request.the-variants as code
 
 -- "Then one last part: `make`,P; or `check`,P and .. rows; or `play` with a value for each secret of definition 0 .. and event lines":
--- of `play` the positions of its values and of its event lines. And `makeall`
+-- of `play` the positions of its values and of its event lines. And `makeall`, and `why`,P
 pub data LastPart : Type 0 where
   make : ℕ → LastPart
   makeAll : LastPart
+  why : ℕ → LastPart
   check : ℕ → List Row → LastPart
   play : ℕ → ℕ → LastPart
 
@@ -50,6 +51,7 @@ module _ (s : List ℕ) (K : ℕ) (E : Entries) where
   unfoldable pub fromPart : Part → Reading
   fromPart (part.Make p) = request K E (make p)
   fromPart part.MakeAll = request K E makeAll
+  fromPart (part.Why p) = request K E (why p)
   fromPart (part.Check p e) =
       let w = rowsAt s (λ n. nodeEntryAt E n .count) (length (E .nodes)) e in
       fromRows p (w .rows) (w .answer)
@@ -69,6 +71,7 @@ readRequest s = fromSheet s (readSheet s)
 unfoldable pub answered : Request → List ℕ → List ℕ → Reading
 answered (code.Make p) t u = request (people t) (held t) (make p)
 answered code.MakeAll t u = request (people t) (held t) makeAll
+answered (code.Why p) t u = request (people t) (held t) (why p)
 answered (code.Check p n) t u = request (people t) (held t) (check p (rowsOf n u))
 answered (code.Play v e) t u = request (people t) (held t) (play v e)
 answered (code.Refused n l f) t u = refused n l f

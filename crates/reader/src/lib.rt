@@ -22,6 +22,8 @@ pub enum Request {
     // The participant.
     Make(usize),
     MakeAll,
+    // The participant.
+    Why(usize),
     // The participant, and how many rows stand in the buffer.
     Check(usize, usize),
     // Where the values start, and where the events do.
@@ -79,6 +81,7 @@ fn after_sheet(s: &[u8], at: usize, t: &[usize], buffer: &mut [usize]) -> Reques
     match o {
         Part::Make(p) => Request::Make(p),
         Part::MakeAll => Request::MakeAll,
+        Part::Why(p) => Request::Why(p),
         Part::Check(p, from) => check_part(s, p, from, t, buffer),
         Part::Play(values, from) => play_part(s, values, from, k),
         Part::Bad(n, q) => refuse(s, n, q),

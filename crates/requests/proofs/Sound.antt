@@ -12,7 +12,7 @@ use Rattle.fields.proofs.Ranges.{when-read-cases, cond-cases, never, below-end,
 use Rattle.fields.specs.Field.{spelled, whenRead, belowAt, betweenAt, firstAt, lineEndAt}
 use Rattle.fields.specs.declared.Got.the-variants.{Value, Bad}
 use Rattle.requests.proofs.Laws.{past-end}
-use Rattle.requests.specs.Part.{participantAt, pastValueAt, pastValuesAt, makeAt, makeAllAt, checkAt, playAt, lastPartAt}
+use Rattle.requests.specs.Part.{participantAt, lastParticipantAt, pastValueAt, pastValuesAt, makeAt, makeAllAt, whyAt, checkAt, playAt, lastPartAt}
 use Rattle.bitml.specs.Rows.{Row}
 use Rattle.requests.specs.Rows.{mostRank, mostRows, row, RowFits, Rows, rowsWith, rowNumbersAt, rowAt, noRoomAt, withLine, rowsFrom, rowsAt}
 use Rattle.requests.specs.declared.Part.{Part}
@@ -26,6 +26,7 @@ use Rattle.requests.specs.declared.RowLine.the-variants as line
 unfoldable pub PartSound : List ℕ → ℕ → ℕ → Part → Type 0
 PartSound s people secrets (part.Make p) = p < people
 PartSound s people secrets part.MakeAll = Unit {0}
+PartSound s people secrets (part.Why p) = p < people
 PartSound s people secrets (part.Check p e) = (p < people) × (e ≤ length s)
 PartSound s people secrets (part.Play f e) = (pastValuesAt s secrets f ≡ Value 0 (e - 1)) × (f < e) × (e ≤ length s)
 PartSound s people secrets (part.Bad n p) = Unit {0}
@@ -39,6 +40,15 @@ participant-end s people at p q =
     let field = below-end s at people w e g in
     let end = line-end-next s e v f k in
     (omega arith, omega arith)
+
+last-participant-end : (s : List ℕ) (people at p q : ℕ) → lastParticipantAt s people at ≡ Value p q → p < people
+unfolding lastParticipantAt
+last-participant-end s people at p q =
+    when-read-cases (λ r. r ≡ Value p q → p < people) Bad (participantAt s people at) _ (λ m o h. never m o p q h) λ w e g.
+    cond-cases (λ r. r ≡ Value p q → p < people) (ltb e (length s)) (Bad 9 e) (Value w e) (λ t h. never 9 e p q h) λ t h.
+    let i : w ≡ p = cc in
+    let field = participant-end s people at w e g in
+    omega arith
 
 values-ahead : (s : List ℕ) (n at v q : ℕ) → pastValuesAt s n at ≡ Value v q → (v ≡ 0) × (at ≤ q)
 unfolding pastValuesAt
@@ -56,15 +66,17 @@ module _ (s : List ℕ) (people secrets : ℕ) where
 
   make-sound : (e : ℕ) → PartSound s people secrets (makeAt s people e)
   unfolding makeAt PartSound
-  make-sound e =
-      when-read-cases (PartSound s people secrets) part.Bad (participantAt s people e) _ bad λ p f g.
-      cond-cases (PartSound s people secrets) (ltb f (length s)) (part.Bad 9 f) (part.Make p) (λ t. bad 9 f) (λ t. participant-end s people e p f g .0)
+  make-sound e = when-read-cases (PartSound s people secrets) part.Bad (lastParticipantAt s people e) _ bad λ p f g. last-participant-end s people e p f g
 
   make-all-sound : (e : ℕ) → PartSound s people secrets (makeAllAt s e)
   unfolding makeAllAt PartSound
   make-all-sound e =
       when-read-cases (PartSound s people secrets) part.Bad (lineEndAt s e) _ bad λ v f g.
       cond-cases (PartSound s people secrets) (ltb f (length s)) (part.Bad 9 f) part.MakeAll (λ t. bad 9 f) (λ t. tt)
+
+  why-sound : (e : ℕ) → PartSound s people secrets (whyAt s people e)
+  unfolding whyAt PartSound
+  why-sound e = when-read-cases (PartSound s people secrets) part.Bad (lastParticipantAt s people e) _ bad λ p f g. last-participant-end s people e p f g
 
   check-sound : (e : ℕ) → PartSound s people secrets (checkAt s people e)
   unfolding checkAt PartSound
@@ -85,6 +97,7 @@ module _ (s : List ℕ) (people secrets : ℕ) where
       when-read-cases (PartSound s people secrets) part.Bad (firstAt s at) _ bad λ w e g.
       cond-cases (PartSound s people secrets) (eqb w (spelled "make")) (makeAt s people e) _ (λ t. make-sound e) λ t.
       cond-cases (PartSound s people secrets) (eqb w (spelled "makeall")) (makeAllAt s e) _ (λ t. make-all-sound e) λ t.
+      cond-cases (PartSound s people secrets) (eqb w (spelled "why")) (whyAt s people e) _ (λ t. why-sound e) λ t.
       cond-cases (PartSound s people secrets) (eqb w (spelled "check")) (checkAt s people e) _ (λ t. check-sound e) λ t.
       cond-cases (PartSound s people secrets) (eqb w (spelled "play")) (playAt s secrets e) (part.Bad 3 at) (λ t. play-sound e) λ t.
       bad 3 at

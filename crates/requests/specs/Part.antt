@@ -39,7 +39,7 @@ pastValuesAt s zero at = Value 0 at
 pastValuesAt s (suc n) at = whenRead Bad (pastValueAt s at) λ v e. pastValuesAt s n e
 
 -- ---- "Then one last part: `make`,P; or `check`,P and [..] lines `row` [..]; or `play` with a value for each secret of definition 0 [..] and event lines."
--- And `makeall`, of "All parties in a single call"
+-- And `makeall`, of "All parties in a single call", and `why`,P, of "Telling the drafter why"
 
 -- P, and the position after the line
 unfoldable pub participantAt : List ℕ → ℕ → ℕ → Got
@@ -47,17 +47,23 @@ participantAt s people at =
     whenRead Bad (belowAt s at people) λ p e.
     whenRead Bad (lineEndAt s e) λ v f. Value p f
 
--- no line follows: "a field too many, or a line (at its field 1)"
+-- and no line follows: "a field too many, or a line (at its field 1)"
+unfoldable pub lastParticipantAt : List ℕ → ℕ → ℕ → Got
+lastParticipantAt s people at =
+    whenRead Bad (participantAt s people at) λ p e.
+    cond (ltb e (length s)) (Bad 9 e) (Value p e)
+
 unfoldable pub makeAt : List ℕ → ℕ → ℕ → Part
-makeAt s people at =
-    whenRead part.Bad (participantAt s people at) λ p e.
-    cond (ltb e (length s)) (part.Bad 9 e) (part.Make p)
+makeAt s people at = whenRead part.Bad (lastParticipantAt s people at) λ p e. part.Make p
 
 -- "`makeall` takes no field after the word", nor does a line follow
 unfoldable pub makeAllAt : List ℕ → ℕ → Part
 makeAllAt s at =
     whenRead part.Bad (lineEndAt s at) λ v e.
     cond (ltb e (length s)) (part.Bad 9 e) part.MakeAll
+
+unfoldable pub whyAt : List ℕ → ℕ → ℕ → Part
+whyAt s people at = whenRead part.Bad (lastParticipantAt s people at) λ p e. part.Why p
 
 unfoldable pub checkAt : List ℕ → ℕ → ℕ → Part
 checkAt s people at = whenRead part.Bad (participantAt s people at) part.Check
@@ -72,6 +78,7 @@ lastPartAt s people secrets at =
     whenRead part.Bad (firstAt s at) λ w e.
     cond (eqb w (spelled "make")) (makeAt s people e)
     (cond (eqb w (spelled "makeall")) (makeAllAt s e)
+    (cond (eqb w (spelled "why")) (whyAt s people e)
     (cond (eqb w (spelled "check")) (checkAt s people e)
     (cond (eqb w (spelled "play")) (playAt s secrets e)
-    (part.Bad 3 at))))
+    (part.Bad 3 at)))))

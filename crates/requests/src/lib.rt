@@ -1,4 +1,4 @@
-// The last part of a request: `make`, `makeall`, `check` with its rows, `play` with its values.
+// The last part of a request: `make`, `makeall`, `why`, `check` with its rows, `play` with its values.
 use fields::Got;
 use fields::first;
 use fields::line_end;
@@ -11,7 +11,7 @@ ghost use mathlib.Core.Path.{_≡_};
 ghost use mathlib.Core.List.{[], _∷_, _++_};
 ghost use Prim.Native.Nat.{_+_, _≤_, _<_};
 ghost use lib.ListN.{length};
-ghost use Rattle.requests.specs.Part.{lastPartAt, makeAt, makeAllAt, checkAt, playAt, participantAt, valueAt, pastValueAt, pastValuesAt};
+ghost use Rattle.requests.specs.Part.{lastPartAt, makeAt, makeAllAt, whyAt, checkAt, playAt, participantAt, lastParticipantAt, valueAt, pastValueAt, pastValuesAt};
 ghost use Rattle.requests.specs.Rows.{countIn, rowAt, rowNumbersAt, noRoomAt, rowsOf, pastRows, row, rowsAt, RowsHeld};
 ghost use Rattle.tables.specs.Entries.{tableLong};
 
@@ -20,6 +20,8 @@ const MAKE: usize = ((b'm' as usize * 256 + b'a' as usize) * 256 + b'k' as usize
 
 pub const MAKEALL: usize = ((MAKE * 256 + b'a' as usize) * 256 + b'l' as usize) * 256
     + b'l' as usize;
+
+const WHY: usize = (b'w' as usize * 256 + b'h' as usize) * 256 + b'y' as usize;
 
 const CHECK: usize = (((b'c' as usize * 256 + b'h' as usize) * 256 + b'e' as usize) * 256
     + b'c' as usize)
@@ -45,6 +47,8 @@ pub enum Part {
     // The participant.
     Make(usize),
     MakeAll,
+    // The participant.
+    Why(usize),
     // The participant, and where the rows start.
     Check(usize, usize),
     // Where the values start, and where the events do.
@@ -134,18 +138,27 @@ fn participant(s: &[u8], at: usize, people: usize) -> Got
     Got::Value(p, f)
 }
 
+// A participant, alone to the request's end.
+fn last_participant(s: &[u8], at: usize, people: usize) -> Got
+    ensures { λ r. ⌜ r ≡ lastParticipantAt (now (s .entry)) people at ⌝ }
+{
+    let g = participant(s, at, people);
+    let Got::Value(p, e) = g else {
+        return g;
+    };
+    if e < s.len() {
+        return Got::Bad(9, e);
+    }
+    Got::Value(p, e)
+}
+
 // `make`, after its word.
 fn make_part(s: &[u8], at: usize, people: usize) -> Part
     ensures { λ r. ⌜ r ≡ makeAt (now (s .entry)) people at ⌝ }
 {
-    let g = participant(s, at, people);
+    let g = last_participant(s, at, people);
     match g {
-        Got::Value(p, e) => {
-            if e < s.len() {
-                return Part::Bad(9, e);
-            }
-            Part::Make(p)
-        }
+        Got::Value(p, _) => Part::Make(p),
         Got::Bad(m, q) => Part::Bad(m, q),
     }
 }
@@ -162,6 +175,17 @@ fn make_all_part(s: &[u8], at: usize) -> Part
             }
             Part::MakeAll
         }
+        Got::Bad(m, q) => Part::Bad(m, q),
+    }
+}
+
+// `why`, after its word.
+fn why_part(s: &[u8], at: usize, people: usize) -> Part
+    ensures { λ r. ⌜ r ≡ whyAt (now (s .entry)) people at ⌝ }
+{
+    let g = last_participant(s, at, people);
+    match g {
+        Got::Value(p, _) => Part::Why(p),
         Got::Bad(m, q) => Part::Bad(m, q),
     }
 }
@@ -203,6 +227,7 @@ pub fn last_part(s: &[u8], at: usize, people: usize, secrets: usize) -> Part
         Got::Value(w, e) => match w {
             MAKE => make_part(s, e, people),
             MAKEALL => make_all_part(s, e),
+            WHY => why_part(s, e, people),
             CHECK => check_part(s, e, people),
             PLAY => play_part(s, e, secrets),
             _ => Part::Bad(3, at),

@@ -1,18 +1,24 @@
 -- An index finds the entries that belong together; making one. Assumes nothing.
-use mathlib.Core.Path.{_≡_, sym, ap, ap₂, _∙_, subst}
+use mathlib.Core.Path.{_≡_, refl, sym, ap, ap₂, _∙_, subst}
 use Prim.Native.Nat.{ℕ, suc, _+_, _-_, _≤_, _<_}
 use native.Mathlib.Omega.{arith}
+use mathlib.Core.Bool.{Bool}
 use mathlib.Core.List.{List, _++_}
 use lib.ListN.{length, getD, take, drop, length-append, length-drop, List·getD-append}
 use lib.Seq.{getD-drop, take-at, getD-append-add, length-take-le}
+use lib.Dec.{eqb}
+use borrow.Author.Tests.{eq-eqb, eqb-true}
+use Rattle.bitml.specs.Lists.{below}
+use Rattle.bitml.proofs.Lists.{keep-all, keep-imp, up-mem, mem-keep, mem-up}
 use Rattle.bucket.specs.Bucket.{keyAt, Keys, Buckets, bucketOf}
 use Rattle.bucket.proofs.Laws.{buckets-frame}
 use Rattle.bucket.proofs.Find.{bucket-size, bucket-at, bucket-room}
 use Rattle.tables.specs.Entries.{Entries, held, people}
 use Rattle.tables.specs.SheetOf.{nodeEntryAt, branchEntryAt, branchNumbers, branchCount, branchNumber, partNumbers, partCount, partNumber}
+use Rattle.tables.proofs.SheetOf.{all-in}
 use Rattle.tables.proofs.Held.{node-held, branch-held}
-use Rattle.reader.proofs.Formed.{parent-small}
-use Rattle.sheets.specs.Ready.{Ready, Indexed}
+use Rattle.reader.proofs.Formed.{place-of, parent-small, argument-small}
+use Rattle.sheets.specs.Ready.{Ready, Indexed, namers, Named}
 
 module _ (E : Entries) (x : List ℕ) (w : Indexed E x) where
   pub branch-at : (n i : ℕ) → n < 512 → i < branchCount E n → branchNumber E n i ≡ getD x (513 + getD x n 0 + i) 0
@@ -48,7 +54,40 @@ module _ (E : Entries) (x : List ℕ) (w : Indexed E x) where
   unfolding partCount partNumbers bucketOf
   part-room b i h l = omega (arith, part-start b, bucket-room _ _ _ _ _ (w .parts) b i h l)
 
--- ---- making it
+-- ---- by argument
+
+module _ (E : Entries) (y : List ℕ) (w : Named E y) where
+  pub namers-at : (a : ℕ) → a < 512 → length (namers E a) ≡ getD y (a + 1) 0 - getD y a 0
+  unfolding namers
+  namers-at a h = bucket-size _ _ _ _ _ (w .branches) a h
+
+  pub namers-rise : (a : ℕ) → a < 512 → getD y a 0 ≤ getD y (a + 1) 0
+  namers-rise a h = let z : suc a ≡ a + 1 = omega arith in subst (λ k. getD y a 0 ≤ getD y k 0) z (w .branches .rises a h)
+
+  pub namer-at : (a i : ℕ) → a < 512 → i < length (namers E a) → getD (namers E a) i 0 ≡ getD y (513 + getD y a 0 + i) 0
+  unfolding namers
+  namer-at a i h l =
+      bucket-at _ _ _ _ _ (w .branches) a i h l ∙ getD-drop 513 y (getD y a 0 + i) 0
+      ∙ ap (λ j. getD y j 0) (let z : 513 + (getD y a 0 + i) ≡ 513 + getD y a 0 + i = omega arith in z)
+
+  pub namer-room : (a i : ℕ) → a < 512 → i < length (namers E a) → getD y a 0 + i < length (E .branches)
+  unfolding namers
+  namer-room a i h l = bucket-room _ _ _ _ _ (w .branches) a i h l
+
+module _ (E : Entries) (a : ℕ) where
+  pub namer-is : (i : ℕ) → i < length (namers E a) → (getD (namers E a) i 0 < length (E .branches)) × (branchEntryAt E (getD (namers E a) i 0) .arg ≡ a)
+  unfolding namers bucketOf
+  namer-is i h =
+      let T : ℕ → Bool = λ b. eqb (branchEntryAt E b .arg) a in
+      let w = all-in (namers E a) i (keep-imp T (below (length (E .branches))) (up-mem 0 (length (E .branches)))) h in
+      (omega (arith, w .1), eqb-true _ _ (all-in (namers E a) i (keep-all T (below (length (E .branches)))) h))
+
+  pub namer-place : (b : ℕ) → b < length (E .branches) → branchEntryAt E b .arg ≡ a → (i : ℕ) × (i < length (namers E a)) × (getD (namers E a) i 0 ≡ b)
+  unfolding namers bucketOf
+  namer-place b h e =
+      place-of (namers E a) (mem-keep (λ b. eqb (branchEntryAt E b .arg) a) (below (length (E .branches))) (mem-up 0 (length (E .branches)) b (omega arith) (omega arith)) (eq-eqb _ _ e))
+
+-- ---- making them
 
 module _ (t : List ℕ) (ok : Ready t) where
   branch-key : (b : ℕ) → b < length (held t .branches) → keyAt t 2056 8 b ≡ branchEntryAt (held t) b .node
@@ -92,6 +131,27 @@ module _ (t : List ℕ) (ok : Ready t) where
             (λ j h. getD-drop 2563 x j 0 ∙ ap (λ i. getD x i 0) (let z : 2563 + j ≡ 1537 + (1026 + j) = omega arith in z) ∙ high (1026 + j) (omega (arith, ok .promises .limits .nodes)) ∙ sym (getD-drop 1026 G j 0)) bn);
       } in
       subst (λ ys. Indexed (held t) (ys ++ (G ++ P))) (sym (take-at F D 1537 lf)) w
+
+  argument-key : (b : ℕ) → b < length (held t .branches) → keyAt t 2060 8 b ≡ branchEntryAt (held t) b .arg
+  unfolding keyAt
+  argument-key b h = ap (λ e. e .arg) (sym (branch-held t b h))
+
+  pub keys-arguments : (k : ℕ) → k ≡ length (held t .branches) → Keys t 2060 8 k 512
+  keys-arguments k e =
+      record {
+        there = λ i h. omega (arith, ok .promises .limits .branches, ok .long);
+        small = λ i h.
+            let l : i < length (held t .branches) = omega arith in
+            omega (arith, argument-key i l, argument-small (people t) (held t) (ok .promises) i l);
+      }
+
+  pub named : (r : ℕ) (y : List ℕ) → r ≡ length (held t .branches) → 1537 ≤ length y → Buckets (keyAt t 2060 8) r 512 y (drop 513 y) → Named (held t) y
+  named r y e l w =
+      record {
+        long = l;
+        branches = subst (λ k. Buckets (λ b. branchEntryAt (held t) b .arg) k 512 y (drop 513 y)) e
+            (buckets-frame (keyAt t 2060 8) (λ b. branchEntryAt (held t) b .arg) r 512 y (drop 513 y) y (drop 513 y) (λ b h. argument-key b (omega arith)) (λ k h. refl) (λ j h. refl) w);
+      }
 
 pub rest-length : (x : List ℕ) (a : ℕ) → length (take (length x - a) (drop a x)) ≡ length x - a
 rest-length x a = length-take-le (length x - a) (drop a x) (rw length-drop (omega arith))

@@ -4,7 +4,7 @@ use mathlib.Core.List.{List}
 use lib.ListN.{length, drop}
 use Rattle.tables.specs.Entries.{Entries, held, people, tableLong}
 use Rattle.tables.specs.SheetOf.{nodeEntryAt, branchEntryAt}
-use Rattle.bucket.specs.Bucket.{Buckets}
+use Rattle.bucket.specs.Bucket.{Buckets, bucketOf}
 use Rattle.reader.specs.Promises.{Promises}
 
 -- "The judging part knows a sheet only by what the reader promises"
@@ -18,3 +18,12 @@ pub record Indexed (E : Entries) (x : List ℕ) : Type 0 where
   pub long : 3075 ≤ length x
   pub branches : Buckets (λ b. branchEntryAt E b .node) (length (E .branches)) 512 x (drop 513 x)
   pub parts : Buckets (λ n. nodeEntryAt E n .parent) (length (E .nodes)) 1025 (drop 1537 x) (drop 2563 x)
+
+-- The branches whose argument is a: those that pay participant a, that have a parts, whose contract is node a, that renew as definition a
+unfoldable pub namers : Entries → ℕ → List ℕ
+namers E a = bucketOf (λ b. branchEntryAt E b .arg) (length (E .branches)) a
+
+-- From 0 where the branches with each argument start, from 513 the branches by argument
+pub record Named (E : Entries) (y : List ℕ) : Type 0 where
+  pub long : 1537 ≤ length y
+  pub branches : Buckets (λ b. branchEntryAt E b .arg) (length (E .branches)) 512 y (drop 513 y)

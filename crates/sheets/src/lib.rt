@@ -3,10 +3,10 @@ use bucket::bucket;
 use tables::Sheet;
 ghost use mathlib.Core.Path.{_≡_};
 ghost use Prim.Native.Nat.{_≤_, _<_};
-ghost use lib.ListN.{length};
+ghost use lib.ListN.{length, getD};
 ghost use Rattle.tables.specs.Entries.{held, people};
 ghost use Rattle.tables.specs.SheetOf.{nodeEntryAt, branchEntryAt, defEntryAt, listedAt, cellAt, branchCount, branchNumber, partCount, partNumber, depositOf, ownerOf};
-ghost use Rattle.sheets.specs.Ready.{Ready, Indexed};
+ghost use Rattle.sheets.specs.Ready.{Ready, Indexed, namers, Named};
 
 // Where the numbers of the first node stand in a table, of the first branch, of the first definition.
 const NODE_DEFINITION: usize = Sheet::NODES_AT;
@@ -48,6 +48,12 @@ const PARTS_BY: usize = PARTS_FROM + Sheet::BRANCHES + 2;
 
 // How many numbers an index has.
 pub const INDEX: usize = PARTS_BY + Sheet::NODES;
+
+// An index by argument: where the branches with each argument start, and from here on the branches by argument.
+const NAMERS_BY: usize = Sheet::NODES + 1;
+
+// How many numbers it has.
+pub const NAMERS: usize = NAMERS_BY + Sheet::BRANCHES;
 
 // How many participants.
 pub fn people(t: &[usize]) -> usize
@@ -94,12 +100,29 @@ pub fn node_definition(t: &[usize], n: usize) -> usize
     t[NODE_DEFINITION + 4 * n]
 }
 
+// The branch in which node n stands; of a root the number past the last that a branch can have.
+pub fn node_parent(t: &[usize], n: usize) -> usize
+    requires { ⌜ Ready (now t) ⌝ }
+    requires { ⌜ n < length (held (now t) .nodes) ⌝ }
+    ensures { λ r. ⌜ r ≡ nodeEntryAt (held (now (t .entry))) n .parent ⌝ }
+{
+    t[NODE_PARENT + 4 * n]
+}
+
 pub fn node_weight(t: &[usize], n: usize) -> usize
     requires { ⌜ Ready (now t) ⌝ }
     requires { ⌜ n < length (held (now t) .nodes) ⌝ }
     ensures { λ r. ⌜ r ≡ nodeEntryAt (held (now (t .entry))) n .weight ⌝ }
 {
     t[NODE_WEIGHT + 4 * n]
+}
+
+pub fn branch_node(t: &[usize], b: usize) -> usize
+    requires { ⌜ Ready (now t) ⌝ }
+    requires { ⌜ b < length (held (now t) .branches) ⌝ }
+    ensures { λ r. ⌜ r ≡ branchEntryAt (held (now (t .entry))) b .node ⌝ }
+{
+    t[BRANCH_NODE + 8 * b]
 }
 
 pub fn branch_signers(t: &[usize], b: usize) -> usize
@@ -284,4 +307,35 @@ pub fn index(t: &[usize], x: &mut [usize])
         Sheet::BRANCHES + 1,
         &mut x[PARTS_FROM..],
     );
+}
+
+// How many branches have the argument a.
+pub fn namer_count(t: &[usize], y: &[usize], a: usize) -> usize
+    requires { ⌜ Ready (now t) ⌝ }
+    requires { ⌜ Named (held (now t)) (now y) ⌝ }
+    requires { ⌜ a < 512 ⌝ }
+    ensures { λ r. ⌜ r ≡ length (namers (held (now (t .entry))) a) ⌝ }
+{
+    y[a + 1] - y[a]
+}
+
+// Branch i of those that have the argument a.
+pub fn namer_of(t: &[usize], y: &[usize], a: usize, i: usize) -> usize
+    requires { ⌜ Ready (now t) ⌝ }
+    requires { ⌜ Named (held (now t)) (now y) ⌝ }
+    requires { ⌜ (a < 512) × (i < length (namers (held (now t)) a)) ⌝ }
+    ensures { λ r. ⌜ r ≡ getD (namers (held (now (t .entry))) a) i 0 ⌝ }
+{
+    let first = y[a];
+    y[NAMERS_BY + first + i]
+}
+
+// The index of a table's branches by argument.
+pub fn index_namers(t: &[usize], y: &mut [usize])
+    requires { ⌜ Ready (now t) ⌝ }
+    requires { ⌜ 1537 ≤ length (now y) ⌝ }
+    ensures { λ _. ⌜ Named (held (now (t .entry))) (now (y .exit)) ⌝ }
+{
+    let branches = branch_total(t);
+    bucket(t, BRANCH_ARG, 8, branches, Sheet::NODES, y);
 }

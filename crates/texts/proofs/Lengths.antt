@@ -9,7 +9,8 @@ use lib.Dec.{ltb}
 use borrow.Author.Tests.{ltb-false}
 use Rattle.bitml.specs.Lists.{All, nil, cons}
 use Rattle.bitml.specs.Rows.{Row}
-use Rattle.bitml.specs.Answers.{rowLine, liquidLine, frozenLine, refusedLine, takenLine, eventLine}
+use Rattle.bitml.specs.Why.{Move}
+use Rattle.bitml.specs.Answers.{rowLine, liquidLine, frozenLine, stepLine, branchLine, refusedLine, takenLine, eventLine}
 use Rattle.texts.specs.Wrote.{Wrote}
 use Rattle.texts.specs.Text.{digits, decimal, letters, field, fields, line, lineText, linesText}
 
@@ -119,3 +120,12 @@ liquid-room p n k w = let ns = p ∷ n ∷ k ∷ [] in omega (arith, w .end, lin
 pub frozen-room : (p n : ℕ) {z b : List ℕ} {a e : ℕ} → Wrote z a (lineText (frozenLine p n)) b e → e ≤ a + 80
 unfolding lineText
 frozen-room p n w = let ns = p ∷ n ∷ [] in omega (arith, w .end, line-length (letters "frozen") ns, fields-most ns)
+
+-- `step` and `branch`, each line of a reason
+pub step-room : (m : Move) {z b : List ℕ} {a e : ℕ} → Wrote z a (lineText (stepLine m)) b e → e ≤ a + 80
+unfolding lineText
+step-room m w = let ns = m .node ∷ m .branch ∷ [] in omega (arith, w .end, line-length (letters "step") ns, fields-most ns)
+
+pub branch-room : (b c : ℕ) {z u : List ℕ} {a e : ℕ} → Wrote z a (lineText (branchLine b c)) u e → e ≤ a + 80
+unfolding lineText
+branch-room b c w = let ns = b ∷ c ∷ [] in omega (arith, w .end, line-length (letters "branch") ns, fields-most ns)

@@ -4,7 +4,7 @@ ghost use mathlib.Core.List.{[], _∷_, map};
 ghost use Prim.Native.Nat.{_+_, _*_, _≤_, _<_};
 ghost use lib.ListN.{length, replicate};
 ghost use Rattle.bitml.specs.Rows.{Row};
-ghost use Rattle.bitml.specs.Answers.{rowLine, liquidLine, frozenLine, refusedLine, takenLine, endLine, eventLine};
+ghost use Rattle.bitml.specs.Answers.{rowLine, liquidLine, frozenLine, stepLine, branchLine, refusedLine, takenLine, endLine, eventLine};
 ghost use Rattle.requests.specs.Rows.{rowsOf};
 ghost use Rattle.texts.specs.Text.{decimal, fields, line, lineText, linesText};
 ghost use Rattle.texts.specs.Wrote.{Wrote};
@@ -88,6 +88,22 @@ pub fn put_frozen(out: &mut [u8], at: usize, p: usize, node: usize) -> usize
 {
     let numbers = [p, node];
     put_line(out, at, b"frozen", &numbers)
+}
+
+pub fn put_step(out: &mut [u8], at: usize, node: usize, branch: usize) -> usize
+    requires { ⌜ at + 80 ≤ length (now out) ⌝ }
+    ensures { λ r. ⌜ Wrote (now (out .entry)) at (lineText (stepLine (record { node = node; branch = branch }))) (now (out .exit)) r ⌝ }
+{
+    let numbers = [node, branch];
+    put_line(out, at, b"step", &numbers)
+}
+
+pub fn put_branch(out: &mut [u8], at: usize, branch: usize, cause: usize) -> usize
+    requires { ⌜ at + 80 ≤ length (now out) ⌝ }
+    ensures { λ r. ⌜ Wrote (now (out .entry)) at (lineText (branchLine branch cause)) (now (out .exit)) r ⌝ }
+{
+    let numbers = [branch, cause];
+    put_line(out, at, b"branch", &numbers)
 }
 
 pub fn put_refused(out: &mut [u8], at: usize, number: usize, line: usize, field: usize) -> usize

@@ -18,7 +18,7 @@ use Rattle.lines.specs.Sheet.{accepted, readSheet}
 use Rattle.ranges.proofs.Reading.{sheet-ranged, sheet-inside}
 use Rattle.requests.specs.declared.Part.the-variants as part
 use Rattle.requests.specs.declared.RowLine.the-variants as row-line
-use Rattle.requests.specs.Part.{participantAt, makeAt, checkAt, lastPartAt}
+use Rattle.requests.specs.Part.{participantAt, lastParticipantAt, makeAt, checkAt, lastPartAt}
 use Rattle.requests.specs.Rows.{mostRank, mostRows, RowFits, rowsWith, rowNumbersAt, rowAt, rowsFrom, rowsAt}
 use Rattle.requests.proofs.Laws.{rows-end, rows-on}
 use Rattle.promises.specs.Texts.{Promised}
@@ -79,7 +79,7 @@ module _ (s : List ℕ) (at : ℕ) (w : List ℕ) (p : ℕ) (rest : List ℕ) (e
 
 module _ (s : List ℕ) (K at p : ℕ) (l : p < K) (k : K ≤ 16) (secrets : ℕ) where
   make-part : drop at s ≡ letters "make" ++ (field p ++ (lf ∷ [])) → lastPartAt s K secrets at ≡ part.Make p
-  unfolding lastPartAt makeAt whenRead packedOf packed fieldLen field
+  unfolding lastPartAt makeAt lastParticipantAt whenRead packedOf packed fieldLen field
   make-part e =
       let end = past s at (letters "make") p [] e in
       rw (

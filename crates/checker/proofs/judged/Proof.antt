@@ -1,6 +1,10 @@
+use mathlib.Core.Path.{refl}
 use native.Mathlib.Omega.{arith}
+use Rattle.reader.specs.Request.{answered}
+use Rattle.promises.specs.Parts.{PartPromise}
 use Rattle.replies.proofs.Giving.{gives-long}
-use Rattle.checker.proofs.Entry.{ready-make, ready-all, ready-check, ready-play, judged-make, judged-all, judged-check, judged-play, judged-refused}
+use Rattle.checker.specs.Entry.{answerFor, judged}
+use Rattle.checker.proofs.Entry.{ready-by, ready-check, ready-all, judged-by}
 use borrow.Author.Needs.{needs}
 use Rattle.checker.proofs.judged.Statement.{statement}
 use Rattle.checker.proofs.judged.Tie as tie
@@ -18,7 +22,8 @@ slice-aggregate-make-for : tie.Need-slice-aggregate-make-for
 slice-aggregate-make-for c = search needs
 
 make-for-requires : tie.Need-make-for-requires
-make-for-requires c κs = let k = ready-make _ _ _ _ (c .before .before .before .before .before .before .before .before .before .read .ensures) _ (c .before .before .before .before .r .given .1) (omega arith) in (k .0, (k .1, omega arith, omega arith))
+unfolding answered PartPromise
+make-for-requires c κs = let k = ready-by _ _ _ _ (c .before .before .before .before .before .before .before .before .before .read .ensures) _ _ (c .before .before .before .before .r .given .1) refl (omega arith) in (k .0, (k .1, omega arith, omega arith))
 
 enum-told : tie.Need-enum-told
 enum-told c = search needs
@@ -32,23 +37,34 @@ all-for-requires c κs = let k = ready-all _ _ _ _ (c .before .before .before .b
 enum-known-r-2 : tie.Need-enum-known-r-2
 enum-known-r-2 c = search needs
 
+slice-aggregate-why-for : tie.Need-slice-aggregate-why-for
+slice-aggregate-why-for c = search needs
+
+why-for-requires : tie.Need-why-for-requires
+unfolding answered PartPromise
+why-for-requires c κs = let k = ready-by _ _ _ _ (c .before .before .before .before .before .before .before .before .before .read .ensures) _ _ (c .before .before .before .before .r2 .given .1) refl (omega arith) in (k .0, (k .1, omega arith, omega arith))
+
+enum-known-r-3 : tie.Need-enum-known-r-3
+enum-known-r-3 c = search needs
+
 slice-aggregate-check-for : tie.Need-slice-aggregate-check-for
 slice-aggregate-check-for c = search needs
 
 check-for-requires : tie.Need-check-for-requires
-check-for-requires c κs = let k = ready-check _ _ _ _ (c .before .before .before .before .before .before .before .before .before .read .ensures) _ _ (c .before .before .before .before .r2 .given .1) (omega arith) (omega arith) in (k .0, ((k .1, omega arith), k .2))
+check-for-requires c κs = let k = ready-check _ _ _ _ (c .before .before .before .before .before .before .before .before .before .read .ensures) _ _ (c .before .before .before .before .r3 .given .1) (omega arith) (omega arith) in (k .0, ((k .1, omega arith), k .2))
 
-enum-known-r-3 : tie.Need-enum-known-r-3
-enum-known-r-3 c = search needs
+enum-known-r-4 : tie.Need-enum-known-r-4
+enum-known-r-4 c = search needs
 
 slice-aggregate-play-for : tie.Need-slice-aggregate-play-for
 slice-aggregate-play-for c = search needs
 
 play-for-requires : tie.Need-play-for-requires
-play-for-requires c κs = let k = ready-play _ _ _ _ (c .before .before .before .before .before .before .before .before .before .read .ensures) _ _ (c .before .before .before .before .r3 .given .1) (omega arith) in (k .0, ((omega arith, omega arith), k .1))
+unfolding answered PartPromise
+play-for-requires c κs = let k = ready-by _ _ _ _ (c .before .before .before .before .before .before .before .before .before .read .ensures) _ _ (c .before .before .before .before .r4 .given .1) refl (omega arith) in (k .0, ((omega arith, omega arith), k .1))
 
-enum-known-r-4 : tie.Need-enum-known-r-4
-enum-known-r-4 c = search needs
+enum-known-r-5 : tie.Need-enum-known-r-5
+enum-known-r-5 c = search needs
 
 refuse-requires : tie.Need-refuse-requires
 refuse-requires c κs = search needs
@@ -60,7 +76,8 @@ same-length-2 : tie.Need-same-length-2
 same-length-2 c = search needs
 
 returns : tie.Need-returns
-returns c = judged-make _ _ _ _ (c .before .before .before .before .before .before .before .before .before .before .before .before .before .before .read .ensures) _ _ (c .before .before .before .before .before .before .before .before .before .r .given .1) (gives-long (c .before .before .before .before .make-for .ensures) (omega arith) (omega arith))
+unfolding answered judged answerFor
+returns c = judged-by _ _ _ _ (c .before .before .before .before .before .before .before .before .before .before .before .before .before .before .read .ensures) _ _ (c .before .before .before .before .before .before .before .before .before .r .given .1) (gives-long (c .before .before .before .before .make-for .ensures) (omega arith) (omega arith))
 
 same-length-3 : tie.Need-same-length-3
 same-length-3 c = search needs
@@ -69,7 +86,8 @@ same-length-4 : tie.Need-same-length-4
 same-length-4 c = search needs
 
 returns-2 : tie.Need-returns-2
-returns-2 c = judged-all _ _ _ _ (c .before .before .before .before .before .before .before .before .before .before .before .before .before .read .ensures) _ (c .before .before .before .before .before .before .before .before .enum-told .given .1) (gives-long (c .before .before .before .before .all-for .ensures) (omega arith) (omega arith))
+unfolding answered judged answerFor
+returns-2 c = judged-by _ _ _ _ (c .before .before .before .before .before .before .before .before .before .before .before .before .before .read .ensures) _ _ (c .before .before .before .before .before .before .before .before .enum-told .given .1) (gives-long (c .before .before .before .before .all-for .ensures) (omega arith) (omega arith))
 
 same-length-5 : tie.Need-same-length-5
 same-length-5 c = search needs
@@ -78,7 +96,8 @@ same-length-6 : tie.Need-same-length-6
 same-length-6 c = search needs
 
 returns-3 : tie.Need-returns-3
-returns-3 c = judged-check _ _ _ _ (c .before .before .before .before .before .before .before .before .before .before .before .before .before .before .read .ensures) _ _ _ (c .before .before .before .before .before .before .before .before .before .r2 .given .1) (gives-long (c .before .before .before .before .check-for .ensures) (omega arith) (omega arith))
+unfolding answered judged answerFor
+returns-3 c = judged-by _ _ _ _ (c .before .before .before .before .before .before .before .before .before .before .before .before .before .before .read .ensures) _ _ (c .before .before .before .before .before .before .before .before .before .r2 .given .1) (gives-long (c .before .before .before .before .why-for .ensures) (omega arith) (omega arith))
 
 same-length-7 : tie.Need-same-length-7
 same-length-7 c = search needs
@@ -87,7 +106,8 @@ same-length-8 : tie.Need-same-length-8
 same-length-8 c = search needs
 
 returns-4 : tie.Need-returns-4
-returns-4 c = judged-play _ _ _ _ (c .before .before .before .before .before .before .before .before .before .before .before .before .before .before .read .ensures) _ _ _ (c .before .before .before .before .before .before .before .before .before .r3 .given .1) (gives-long (c .before .before .before .before .play-for .ensures) (omega arith) (omega arith))
+unfolding answered judged answerFor
+returns-4 c = judged-by _ _ _ _ (c .before .before .before .before .before .before .before .before .before .before .before .before .before .before .read .ensures) _ _ (c .before .before .before .before .before .before .before .before .before .r3 .given .1) (gives-long (c .before .before .before .before .check-for .ensures) (omega arith) (omega arith))
 
 same-length-9 : tie.Need-same-length-9
 same-length-9 c = search needs
@@ -96,7 +116,18 @@ same-length-10 : tie.Need-same-length-10
 same-length-10 c = search needs
 
 returns-5 : tie.Need-returns-5
-returns-5 c = judged-refused _ _ _ _ (c .before .before .before .before .before .before .before .before .before .before .before .before .before .read .ensures) _ _ _ _ (c .before .before .before .before .before .before .before .before .r4 .given .1) (gives-long (c .before .before .before .before .refuse .ensures) (omega arith) (omega arith))
+unfolding answered judged answerFor
+returns-5 c = judged-by _ _ _ _ (c .before .before .before .before .before .before .before .before .before .before .before .before .before .before .read .ensures) _ _ (c .before .before .before .before .before .before .before .before .before .r4 .given .1) (gives-long (c .before .before .before .before .play-for .ensures) (omega arith) (omega arith))
+
+same-length-11 : tie.Need-same-length-11
+same-length-11 c = search needs
+
+same-length-12 : tie.Need-same-length-12
+same-length-12 c = search needs
+
+returns-6 : tie.Need-returns-6
+unfolding answered judged answerFor
+returns-6 c = judged-by _ _ _ _ (c .before .before .before .before .before .before .before .before .before .before .before .before .before .read .ensures) _ _ (c .before .before .before .before .before .before .before .before .r5 .given .1) (gives-long (c .before .before .before .before .refuse .ensures) (omega arith) (omega arith))
 
 pub judged-spec : {M : Type 1} → statement M
 judged-spec =
@@ -111,12 +142,15 @@ judged-spec =
     slice-aggregate-all-for
     all-for-requires
     enum-known-r-2
+    slice-aggregate-why-for
+    why-for-requires
+    enum-known-r-3
     slice-aggregate-check-for
     check-for-requires
-    enum-known-r-3
+    enum-known-r-4
     slice-aggregate-play-for
     play-for-requires
-    enum-known-r-4
+    enum-known-r-5
     refuse-requires
     same-length
     same-length-2
@@ -132,4 +166,7 @@ judged-spec =
     returns-4
     same-length-9
     same-length-10
-    returns-5)
+    returns-5
+    same-length-11
+    same-length-12
+    returns-6)

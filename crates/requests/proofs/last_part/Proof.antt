@@ -17,6 +17,9 @@ make-part-requires c κs = search needs
 make-all-part-requires : tie.Need-make-all-part-requires
 make-all-part-requires c κs = search needs
 
+why-part-requires : tie.Need-why-part-requires
+why-part-requires c κs = search needs
+
 check-part-requires : tie.Need-check-part-requires
 check-part-requires c κs = search needs
 
@@ -36,19 +39,23 @@ returns-2 c = rw (← c .before .before .before .before .before .first .ensures,
 
 returns-3 : tie.Need-returns-3
 unfolding lastPartAt whenRead
-returns-3 c = rw (← c .before .before .before .before .before .first .ensures, c .before .before .before .g .given .1, c .before .match2 .keys3, ← c .check-part .ensures)
+returns-3 c = rw (← c .before .before .before .before .before .first .ensures, c .before .before .before .g .given .1, c .before .match2 .keys3, ← c .why-part .ensures)
 
 returns-4 : tie.Need-returns-4
 unfolding lastPartAt whenRead
-returns-4 c = rw (← c .before .before .before .before .before .first .ensures, c .before .before .before .g .given .1, c .before .match2 .keys4, ← c .play-part .ensures)
+returns-4 c = rw (← c .before .before .before .before .before .first .ensures, c .before .before .before .g .given .1, c .before .match2 .keys4, ← c .check-part .ensures)
 
 returns-5 : tie.Need-returns-5
 unfolding lastPartAt whenRead
-returns-5 c = rw (← c .before .before .before .before .first .ensures, c .before .before .g .given .1, ne-eqb _ _ (c .match2 .rest .0 .0 .0 .1), ne-eqb _ _ (c .match2 .rest .0 .0 .1), ne-eqb _ _ (c .match2 .rest .0 .1), ne-eqb _ _ (c .match2 .rest .1))
+returns-5 c = rw (← c .before .before .before .before .before .first .ensures, c .before .before .before .g .given .1, c .before .match2 .keys5, ← c .play-part .ensures)
 
 returns-6 : tie.Need-returns-6
 unfolding lastPartAt whenRead
-returns-6 c = rw (← c .before .before .before .first .ensures, c .before .g2 .given .1)
+returns-6 c = rw (← c .before .before .before .before .first .ensures, c .before .before .g .given .1, ne-eqb _ _ (c .match2 .rest .0 .0 .0 .0 .1), ne-eqb _ _ (c .match2 .rest .0 .0 .0 .1), ne-eqb _ _ (c .match2 .rest .0 .0 .1), ne-eqb _ _ (c .match2 .rest .0 .1), ne-eqb _ _ (c .match2 .rest .1))
+
+returns-7 : tie.Need-returns-7
+unfolding lastPartAt whenRead
+returns-7 c = rw (← c .before .before .before .first .ensures, c .before .g2 .given .1)
 
 pub last-part-spec : {M : Type 1} → statement M
 last-part-spec =
@@ -58,6 +65,7 @@ last-part-spec =
     enum-known-g
     make-part-requires
     make-all-part-requires
+    why-part-requires
     check-part-requires
     play-part-requires
     enum-known-g-2
@@ -66,4 +74,5 @@ last-part-spec =
     returns-3
     returns-4
     returns-5
-    returns-6)
+    returns-6
+    returns-7)

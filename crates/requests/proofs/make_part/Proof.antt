@@ -1,32 +1,26 @@
 use borrow.Author.Needs.{needs}
-use borrow.Author.Tests.{le-ltb, lt-ltb}
 use Rattle.fields.specs.Field.{whenRead}
 use Rattle.requests.specs.Part.{makeAt}
 use Rattle.requests.proofs.make_part.Statement.{statement}
 use Rattle.requests.proofs.make_part.Tie as tie
 
-participant-requires : tie.Need-participant-requires
-participant-requires c κs = search needs
+last-participant-requires : tie.Need-last-participant-requires
+last-participant-requires c κs = search needs
 
 enum-known-g : tie.Need-enum-known-g
 enum-known-g c = search needs
 
-returns : tie.Need-returns
-unfolding makeAt whenRead
-returns c = rw (← c .before .before .before .before .participant .ensures, c .before .before .g .given .1, lt-ltb _ _ (c .if1 .taken))
-
 enum-known-g-2 : tie.Need-enum-known-g-2
 enum-known-g-2 c = search needs
 
+returns : tie.Need-returns
+unfolding makeAt whenRead
+returns c = rw (← c .before .before .before .last-participant .ensures, c .before .g .given .1)
+
 returns-2 : tie.Need-returns-2
 unfolding makeAt whenRead
-returns-2 c = rw (← c .before .before .before .before .participant .ensures, c .before .before .g .given .1, le-ltb _ _ (c .if1 .left))
-
-returns-3 : tie.Need-returns-3
-unfolding makeAt whenRead
-returns-3 c = rw (← c .before .before .before .participant .ensures, c .before .g2 .given .1)
+returns-2 c = rw (← c .before .before .before .last-participant .ensures, c .before .g2 .given .1)
 
 pub make-part-spec : {M : Type 1} → statement M
 make-part-spec =
-    tie.close
-    (tie.spec participant-requires enum-known-g returns enum-known-g-2 returns-2 returns-3)
+    tie.close (tie.spec last-participant-requires enum-known-g enum-known-g-2 returns returns-2)

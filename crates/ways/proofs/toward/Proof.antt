@@ -10,7 +10,7 @@ use Rattle.ways.proofs.toward.Statement.{statement}
 use Rattle.ways.proofs.toward.Tie as tie
 
 abbrev Inv-loop : tie.InvT-loop
-Inv-loop t dist n x k count i₀ i = (i ≤ branchCount (held t) n) × NoneBefore (people t) (held t) dist n (getD dist n 0 - 1) i
+Inv-loop t dist n x k count i₀ i = NoneBefore (people t) (held t) dist n (getD dist n 0 - 1) i × (i ≤ branchCount (held t) n)
 
 abbrev μ-loop : tie.MeasureT-loop
 μ-loop t dist n x k count i₀ i = branchCount (held t) n - i
@@ -28,7 +28,7 @@ branch-count-requires : tie.Need-branch-count-requires Inv-loop μ-loop
 branch-count-requires c κs = search needs
 
 loop-holds : tie.Need-loop-holds Inv-loop μ-loop
-loop-holds c = (omega arith, none-first _ _ _ _ _)
+loop-holds c = (none-first _ _ _ _ _, omega arith)
 
 branch-of-requires : tie.Need-branch-of-requires Inv-loop μ-loop
 branch-of-requires c κs = let p = c .before .before .before .before .before .before .pre in (p .0, (p .1 .0, (p .1 .1 .1, omega (arith, c .before .before .branch-count .ensures))))
@@ -38,7 +38,7 @@ node-toward-requires c κs = let p = c .before .before .before .before .before .
 
 returns : tie.Need-returns Inv-loop μ-loop
 returns c = let p = c .before .before .before .before .before .before .before .before .before .pre in let a = c .before .before .before .before .before .before .before .before .before .args in let l = c .before .before .before .before .loop in
-    turned (people (a .t .now)) (held (a .t .now)) (p .0 .promises) (a .dist .now) (a .n) (l .i) _ _ (c .before .before .branch-of .ensures) (p .1 .1 .1) (p .1 .1 .2) (omega (arith, c .before .before .before .before .before .branch-count .ensures)) (l .inv .1) (c .before .node-toward .ensures) (c .if1 .taken)
+    turned (people (a .t .now)) (held (a .t .now)) (p .0 .promises) (a .dist .now) (a .n) (l .i) _ _ (c .before .before .branch-of .ensures) (p .1 .1 .1) (p .1 .1 .2) (omega (arith, c .before .before .before .before .before .branch-count .ensures)) (l .inv .0) (c .before .node-toward .ensures) (c .if1 .taken)
 
 add-i : tie.Need-add-i Inv-loop μ-loop
 add-i c = search needs
@@ -48,11 +48,11 @@ loop-less c = search needs
 
 loop-again : tie.Need-loop-again Inv-loop μ-loop
 loop-again c = let p = c .before .before .before .before .before .before .before .before .before .pre in let a = c .before .before .before .before .before .before .before .before .before .args in let l = c .before .before .before .before .loop in
-    (omega (arith, c .before .before .before .before .before .branch-count .ensures), none-more (people (a .t .now)) (held (a .t .now)) (a .dist .now) (a .n) _ (l .i) _ _ (c .before .before .branch-of .ensures) (l .inv .1) (c .before .node-toward .ensures) (c .if1 .left))
+    (none-more (people (a .t .now)) (held (a .t .now)) (a .dist .now) (a .n) _ (l .i) _ _ (c .before .before .branch-of .ensures) (l .inv .0) (c .before .node-toward .ensures) (c .if1 .left), omega (arith, c .before .before .before .before .before .branch-count .ensures))
 
 returns-2 : tie.Need-returns-2 Inv-loop μ-loop
 returns-2 c = let p = c .before .before .before .before .before .before .pre in let a = c .before .before .before .before .before .before .args in let l = c .before .loop in
-    λ g x. absurd (not-turned (people (a .t .now)) (held (a .t .now)) (p .0 .promises) (a .dist .now) (a .n) (l .i) (p .1 .1 .1) (p .1 .1 .2) (omega (arith, c .before .before .branch-count .ensures)) (l .inv .0) (l .inv .1) g x)
+    λ g x. absurd (not-turned (people (a .t .now)) (held (a .t .now)) (p .0 .promises) (a .dist .now) (a .n) (l .i) (p .1 .1 .1) (p .1 .1 .2) (omega (arith, c .before .before .branch-count .ensures)) (l .inv .1) (l .inv .0) g x)
 
 pub toward-spec : {M : Type 1} → statement M
 toward-spec =

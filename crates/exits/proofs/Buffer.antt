@@ -7,7 +7,7 @@ use mathlib.Core.List.{List, [], _∷_, _++_, map, append-assoc, append-nil, Lis
 use lib.ListN.{length, getD, set, replicate, length-set, length-append, length-replicate}
 use lib.Dec.{eqb, ltb}
 use borrow.Author.Tests.{ne-eqb, lt-ltb, ltb-true, eqb-true, eqb-false}
-use Rattle.bitml.specs.Lists.{_&_, sum, keep, below, upFrom, All}
+use Rattle.bitml.specs.Lists.{_&_, keep, below, upFrom, All}
 use Rattle.bitml.specs.Rows.{Row, rankOf}
 use Rattle.bitml.specs.Answers.{noRow}
 use Rattle.bitml.specs.Rule as rule
@@ -19,7 +19,8 @@ use Rattle.tables.specs.SheetOf.{sheetOf}
 use Rattle.tables.proofs.SheetOf.{nodes-are}
 use Rattle.reader.specs.Promises.{Promises}
 use Rattle.exits.specs.declared.Verdict.the-variants.{Liquid, Frozen}
-use Rattle.exits.specs.Marks.{Ranks, Marked, MarksReached, flag}
+use Rattle.exits.specs.Marks.{Ranks, Marked, MarksReached}
+use Rattle.exits.proofs.Queue.{flags-none}
 use Rattle.exits.specs.Made.{flat, filled, answerOf, bufferOf, stuckBy, firstOr, markedBy, rowBy, rowsBy, put}
 use Rattle.exits.proofs.Reaching.{first-reached, reached-small}
 
@@ -162,10 +163,6 @@ zeros zero m = refl
 zeros (suc n) zero = refl
 zeros (suc n) (suc m) = zeros n m
 
-no-flags : (n : ℕ) → sum (map flag (replicate n 0)) ≡ 0
-no-flags zero = refl
-no-flags (suc n) = omega (arith, no-flags n)
-
 pub no-marks : (length (replicate {A = ℕ} 512 0) ≡ 512) × ((m : ℕ) → _≡_ {A = ℕ} (getD (replicate 512 0) m 0) 0)
 no-marks = (length-replicate {A = ℕ} 512 0, zeros 512)
 
@@ -173,7 +170,7 @@ pub marks-none : (K : ℕ) (E : Entries) → Marked K E (replicate 32 0) (replic
 marks-none K E = record {
   long = length-replicate {A = ℕ} 32 0;
   wide = length-replicate {A = ℕ} 32 0;
-  count = no-flags 32;
+  count = flags-none (replicate 32 0) (zeros 32);
   sound = λ m h. absurd (omega (arith, zeros 32 m));
   queued = λ m h. absurd (omega (arith, zeros 32 m));
   back = λ i h. absurd (omega arith);

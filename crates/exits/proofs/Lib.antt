@@ -3,3 +3,4 @@ pub mod Ranking
 pub mod Queue
 pub mod Reaching
 pub mod Buffer
+pub mod Told

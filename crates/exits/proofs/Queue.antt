@@ -29,6 +29,11 @@ pub flags-le : (M : List ℕ) → sum (map flag M) ≤ length M
 flags-le [] = omega arith
 flags-le (x ∷ M) = omega (arith, flags-le M, flag-le x)
 
+-- where all marks are missing there are none
+pub flags-none : (M : List ℕ) → ((m : ℕ) → getD M m 0 ≡ 0) → sum (map flag M) ≡ 0
+flags-none [] f = refl
+flags-none (x ∷ M) f = let z : flag x ≡ 0 = ap flag (f 0) in omega (arith, flags-none M (λ m. f (suc m)))
+
 -- where a mark is missing there are fewer marks than places
 pub room : (M : List ℕ) (m : ℕ) → m < length M → getD M m 0 ≡ 0 → sum (map flag M) < length M
 room [] m h e = absurd (omega arith)

@@ -1,5 +1,5 @@
 -- The lines that say why, one behind the other. Assumes nothing.
-use mathlib.Core.Path.{_≡_, sym, ap, ap₂, _∙_, subst}
+use mathlib.Core.Path.{_≡_, sym, ap, _∙_, subst}
 use Prim.Native.Nat.{ℕ, suc, _+_, _-_, _≤_, _<_}
 use native.Mathlib.Omega.{arith}
 use native.Mathlib.Numerals.{add-one}
@@ -10,11 +10,10 @@ use lib.Seq.{drop-cons}
 use lib.Dec.{eqb}
 use borrow.Author.Tests.{eq-eqb, ne-eqb}
 use Rattle.bitml.specs.Sheet.{Sheet, noBranch, defAt, branchesAt, branchAt}
-use Rattle.bitml.specs.Rows.{rankOf}
-use Rattle.bitml.specs.Rule.{Verdict, liquid, frozen, make, reached}
+use Rattle.bitml.specs.Rule.{Verdict, frozen, make, reached}
 use Rattle.bitml.specs.Runs.{Exit}
 use Rattle.bitml.specs.Why.{trail, stepsTo, distance, bar, cause, causes}
-use Rattle.bitml.specs.Answers.{Line, liquidLine, frozenLine, stepLine, branchLine, liquidBy, branchLines, whyLines, explaining, answer}
+use Rattle.bitml.specs.Answers.{Line, liquidLine, frozenLine, stepLine, branchLine, branchLines, whyLines, explaining, answer}
 use Rattle.bitml.proofs.Lists.{is-false}
 use Rattle.bitml.proofs.Reach.{reached-complete, reached-in}
 use Rattle.bitml.proofs.Why.{frozen-is}
@@ -26,7 +25,8 @@ use Rattle.tables.proofs.SheetOf.{root-is, nodes-are, count-of, branch-of}
 use Rattle.reader.proofs.Formed.{well-formed}
 use Rattle.sheets.specs.Ready.{Ready}
 use Rattle.exits.specs.Made.{filled, answerOf, bufferOf}
-use Rattle.exits.specs.declared.Verdict.the-variants.{Liquid, Frozen}
+use Rattle.exits.specs.declared.Verdict.the-variants.{Liquid}
+use Rattle.exits.proofs.Told.{root-first, told-liquid}
 use Rattle.ways.specs.declared.Turn.{Turn}
 use Rattle.ways.specs.Distances.{Distances, Turned}
 use Rattle.texts.specs.Text.{lineText, linesText}
@@ -169,21 +169,12 @@ unfolding whyLines linesText
 wrote-reason s p n {z = z} {b″ = b″} {a = a} {k = k} w x y =
     subst (λ xs. Wrote z a (lineText (frozenLine p n) ++ xs) b″ k) (sym (lines-append (map stepLine (stepsTo s n)) (branchLines 0 (causes s p n)))) (wrote-then w (wrote-then x y))
 
--- the line of a liquid sheet: node 0 is the root of definition 0
 pub wrote-liquid : (t : List ℕ) → Ready t → (p : ℕ) (v : Verdict) {z b : List ℕ} {a k count rank : ℕ} → Liquid count rank ≡ answerOf v → Wrote z a (lineText (liquidLine p count rank)) b k
     → Wrote z a (linesText (whyLines (sheetIn t) p v)) b k
-unfolding answerOf whyLines liquidBy
-wrote-liquid t ok p (liquid R) {z} {b} {a} {k} {count} {rank} l w =
-    let c : count ≡ length R = cc in
-    let r : rank ≡ rankOf R 0 = cc in
-    let root : defAt (sheetIn t) 0 .root ≡ 0 = root-is (people t) (held t) 0 (ok .promises .limits .defs .0) ∙ ok .promises .nesting .start in
-    subst (λ xs. Wrote z a xs b k) (ap₂ (λ i j. lineText (liquidLine p i j)) c (r ∙ ap (rankOf R) (sym root)) ∙ sym (one-line _)) w
-wrote-liquid t ok p (frozen n) l w = let q : _≡_ {A = ℕ} 0 1 = cc in absurd (omega arith)
-
-pub told-frozen : (v : Verdict) (n : ℕ) → Frozen n ≡ answerOf v → v ≡ frozen n
-unfolding answerOf
-told-frozen (liquid R) n l = let q : _≡_ {A = ℕ} 0 1 = cc in absurd (omega arith)
-told-frozen (frozen m) n l = ap frozen (let q : m ≡ n = cc in q)
+unfolding whyLines
+wrote-liquid t ok p v {z} {b} {a} {k} {count} {rank} l w =
+    let u = told-liquid (sheetIn t) p (root-first t ok) v count rank l in
+    subst (λ v. Wrote z a (linesText (whyLines (sheetIn t) p v)) b k) (sym (u .1)) (subst (λ xs. Wrote z a xs b k) (ap lineText (u .3) ∙ sym (one-line _)) w)
 
 module _ (s : Sheet) (p n m : ℕ) (u z b : List ℕ) (k : ℕ) (clear : z ≡ replicate m 0) where
   pub why-gives : u ≡ filled n [] → Wrote z 0 (linesText (whyLines s p (make s p))) b k

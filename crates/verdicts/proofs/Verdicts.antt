@@ -17,13 +17,14 @@ use Rattle.bitml.proofs.Lists.{length-up, all-map, all-mem, all-imp, all-both, 
 use Rattle.bitml.specs.Answers.{rowLine, liquidLine, frozenLine, refused, printed, liquidBy, making, madeLines, madeRows, madeBy, checkedBy, answer}
 use Rattle.tables.specs.Entries.{Entries, held, people}
 use Rattle.tables.specs.SheetOf.{nodeEntryAt, branchCount, sheetOf, sheetIn}
-use Rattle.tables.proofs.SheetOf.{keep-le, root-is, nodes-are, count-of}
+use Rattle.tables.proofs.SheetOf.{keep-le, nodes-are, count-of}
 use Rattle.reader.specs.Promises.{Promises}
 use Rattle.reader.proofs.Formed.{well-formed, ranks-small}
 use Rattle.requests.specs.Rows.{RowFits, rowsOf}
 use Rattle.sheets.specs.Ready.{Ready}
 use Rattle.exits.specs.Made.{filled, answerOf, bufferOf}
 use Rattle.exits.specs.declared.Verdict.the-variants.{Liquid, Frozen}
+use Rattle.exits.proofs.Told.{line-is, told-liquid, told-frozen}
 use Rattle.rows.specs.Given.{answerOf as answerOfRows, bufferOf as bufferOfRows}
 use Rattle.rows.specs.declared.Checked.the-variants as checked
 use Rattle.rows.proofs.Buffer.{rows-filled}
@@ -39,10 +40,6 @@ use Rattle.replies.proofs.Giving.{gives-printed, gives-refused}
 abbrev told : ℕ → Reply
 told k = record { number = 0; line = 0; field = 0; length = k }
 
--- node 0 is the root of definition 0
-pub root-first : (t : List ℕ) → Ready t → defAt (sheetIn t) 0 .root ≡ 0
-root-first t ok = root-is (people t) (held t) 0 (ok .promises .limits .defs .0) ∙ ok .promises .nesting .start
-
 -- the row buffer of a verdict
 pub buffer-is : (n : ℕ) (v : Verdict) → bufferOf n v ≡ filled n (madeRows v)
 unfolding bufferOf madeRows
@@ -51,14 +48,10 @@ buffer-is n (frozen x) = refl
 
 module _ (s : Sheet) (p : ℕ) (first : defAt s 0 .root ≡ 0) where
   -- the last line of a liquid sheet
-  line-is : (R : List Row) → liquidLine p (length R) (rankOf R 0) ≡ liquidBy s p R
-  unfolding liquidBy
-  line-is R = ap (λ m. liquidLine p (length R) (rankOf R m)) (sym first)
-
   liquid-line : (R : List Row) (k : ℕ) (z b : List ℕ) → Wrote z 0 (lineText (liquidLine p (length R) (rankOf R 0))) b k
       → Wrote z 0 (linesText (liquidBy s p R ∷ [])) b k
   unfolding linesText
-  liquid-line R k z b w = subst (λ xs. Wrote z 0 xs b k) (ap lineText (line-is R) ∙ sym (one-line (liquidBy s p R))) w
+  liquid-line R k z b w = subst (λ xs. Wrote z 0 xs b k) (ap lineText (line-is s p first R) ∙ sym (one-line (liquidBy s p R))) w
 
   made-lines : (R : List Row) → linesText (map rowLine R) ++ linesText (liquidBy s p R ∷ []) ≡ linesText (map rowLine R ++ (liquidBy s p R ∷ []))
   made-lines R = sym (lines-append (map rowLine R) (liquidBy s p R ∷ []))
@@ -68,22 +61,20 @@ module _ (s : Sheet) (p : ℕ) (first : defAt s 0 .root ≡ 0) where
   pub made-liquid : (v : Verdict) (n : ℕ) (u z b b′ : List ℕ) (a e k count rank : ℕ) → 3 * count ≤ n → Liquid count rank ≡ answerOf v → u ≡ bufferOf n v
       → Wrote z a (linesText (map rowLine (rowsOf count u))) b e → Wrote b e (lineText (liquidLine p count rank)) b′ k
       → Wrote z a (linesText (madeLines s p v)) b′ k
-  unfolding answerOf bufferOf madeLines
-  made-liquid (liquid R) n u z b b′ a e k count rank h l f w x =
-      let c : count ≡ length R = cc in
-      let r : rank ≡ rankOf R 0 = cc in
-      let g : rowsOf count u ≡ R = ap₂ rowsOf c f ∙ rows-filled n R (omega arith) in
-      let y : lineText (liquidLine p count rank) ≡ linesText (liquidBy s p R ∷ []) = ap₂ (λ i j. lineText (liquidLine p i j)) c r ∙ ap lineText (line-is R) ∙ sym (one-line (liquidBy s p R)) in
-      subst (λ xs. Wrote z a xs b′ k) (ap₂ (λ Q xs. linesText (map rowLine Q) ++ xs) g y ∙ made-lines R) (wrote-then w x)
-  made-liquid (frozen y) n u z b b′ a e k count rank h l f w x = let q : _≡_ {A = ℕ} 0 1 = cc in absurd (omega arith)
+  unfolding bufferOf madeLines
+  made-liquid v n u z b b′ a e k count rank h l f w x =
+      let t = told-liquid s p first v count rank l in
+      let R = t .0 in
+      let g : rowsOf count u ≡ R = ap₂ rowsOf (t .2) (f ∙ ap (bufferOf n) (t .1)) ∙ rows-filled n R (omega (arith, t .2)) in
+      let y : lineText (liquidLine p count rank) ≡ linesText (liquidBy s p R ∷ []) = ap lineText (t .3) ∙ sym (one-line (liquidBy s p R)) in
+      subst (λ v. Wrote z a (linesText (madeLines s p v)) b′ k) (sym (t .1))
+      (subst (λ xs. Wrote z a xs b′ k) (ap₂ (λ Q xs. linesText (map rowLine Q) ++ xs) g y ∙ made-lines R) (wrote-then w x))
 
   pub made-frozen : (v : Verdict) (z b : List ℕ) (a k node : ℕ) → Frozen node ≡ answerOf v → Wrote z a (lineText (frozenLine p node)) b k
       → Wrote z a (linesText (madeLines s p v)) b k
-  unfolding answerOf madeLines
-  made-frozen (liquid R) z b a k node l w = let q : _≡_ {A = ℕ} 0 1 = cc in absurd (omega arith)
-  made-frozen (frozen x) z b a k node l w =
-      let c : node ≡ x = cc in
-      subst (λ xs. Wrote z a xs b k) (ap (λ i. lineText (frozenLine p i)) c ∙ sym (one-line (frozenLine p x))) w
+  unfolding madeLines
+  made-frozen v z b a k node l w =
+      subst (λ v. Wrote z a (linesText (madeLines s p v)) b k) (sym (told-frozen v node l)) (subst (λ xs. Wrote z a xs b k) (sym (one-line (frozenLine p node))) w)
 
   module _ (n m : ℕ) (u z : List ℕ) (clear : z ≡ replicate m 0) where
     pub make-gives : (b : List ℕ) (k : ℕ) → u ≡ bufferOf n (make s p) → Wrote z 0 (linesText (madeLines s p (make s p))) b k

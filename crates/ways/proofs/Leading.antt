@@ -5,9 +5,8 @@ use Prim.Native.Nat.{ℕ, zero, suc, _+_, _-_, _≤_, _<_}
 use native.Mathlib.Omega.{arith}
 use native.Mathlib.Decide.{decLe}
 use mathlib.Core.Bool.{Bool, true, false}
-use mathlib.Core.List.{List, [], _∷_, map, List·Memᴰ, List·Memᴰ·head, List·Memᴰ·eq-of-singleton}
+use mathlib.Core.List.{List, List·Memᴰ, List·Memᴰ·head, List·Memᴰ·eq-of-singleton}
 use lib.ListN.{length, getD}
-use Rattle.bitml.specs.Lists.{sum}
 use Rattle.bitml.specs.Sheet.{branchAt}
 use Rattle.bitml.specs.Runs.{next}
 use Rattle.bitml.specs.Why.{near}
@@ -20,7 +19,7 @@ use Rattle.reader.specs.Promises.{Promises}
 use Rattle.reader.proofs.Formed.{part-in, in-parts, branch-place, parts-are-nodes}
 use Rattle.sheets.specs.Ready.{namers}
 use Rattle.sheets.proofs.Indexing.{namer-place}
-use Rattle.exits.specs.Marks.{flag}
+use Rattle.exits.proofs.Queue.{flags-none}
 use Rattle.exits.proofs.Reaching.{parts-next, next-parts}
 use Rattle.ways.specs.Distances.{Distances}
 use Rattle.ways.specs.Marks.{Marked, Close, Grew, Before, Led, LedUpTo, RenewerLed, RenewersLed}
@@ -68,10 +67,6 @@ module _ (E : Entries) where
       omega (arith, f m, mk′ .rising h (h + 1) (omega arith) l′, ap (λ n. getD D′ n 0) (w .places h l), w .marks (getD Q h 0) (mk .marked h l))
 
 -- ---- nothing is marked at first
-
-flags-none : (D : List ℕ) → ((m : ℕ) → getD D m 0 ≡ 0) → sum (map flag D) ≡ 0
-flags-none [] f = refl
-flags-none (x ∷ D) f = let z : flag x ≡ 0 = ap flag (f 0) in omega (arith, flags-none D (λ m. f (suc m)))
 
 pub marked-none : (K : ℕ) (E : Entries) (g : ℕ) (D Q : List ℕ) → length D ≡ 512 → length Q ≡ 512 → ((m : ℕ) → getD D m 0 ≡ 0) → Marked K E g D Q 0
 marked-none K E g D Q l w f =

@@ -2,7 +2,8 @@ use mathlib.Core.Path.{refl, sym, _∙_}
 use native.Mathlib.Omega.{arith}
 use Rattle.exits.proofs.Buffer.{no-marks}
 use Rattle.replies.proofs.Giving.{gives-as, gives-long}
-use Rattle.reasons.proofs.Reasons.{wrote-liquid, told-frozen, why-gives, frozen-gives}
+use Rattle.exits.proofs.Told.{told-frozen}
+use Rattle.reasons.proofs.Reasons.{wrote-liquid, why-gives, frozen-gives}
 use borrow.Author.Needs.{needs}
 use Rattle.reasons.proofs.why_for.Statement.{statement}
 use Rattle.reasons.proofs.why_for.Tie as tie

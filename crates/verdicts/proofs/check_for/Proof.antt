@@ -9,7 +9,8 @@ use Rattle.tables.proofs.SheetOf.{defs-are}
 use Rattle.requests.specs.Rows.{rowsOf}
 use Rattle.requests.proofs.Laws.{rows-length}
 use Rattle.replies.proofs.Giving.{gives-as}
-use Rattle.verdicts.proofs.Verdicts.{root-first, check-liquid, check-refused, place-few}
+use Rattle.exits.proofs.Told.{root-first}
+use Rattle.verdicts.proofs.Verdicts.{check-liquid, check-refused, place-few}
 use borrow.Author.Needs.{needs}
 use Rattle.verdicts.proofs.check_for.Statement.{statement}
 use Rattle.verdicts.proofs.check_for.Tie as tie

@@ -1,7 +1,8 @@
 use native.Mathlib.Omega.{arith}
 use Rattle.exits.proofs.Buffer.{no-marks}
 use Rattle.replies.proofs.Giving.{gives-as}
-use Rattle.verdicts.proofs.Verdicts.{root-first, make-gives}
+use Rattle.exits.proofs.Told.{root-first}
+use Rattle.verdicts.proofs.Verdicts.{make-gives}
 use borrow.Author.Needs.{needs}
 use Rattle.verdicts.proofs.make_for.Statement.{statement}
 use Rattle.verdicts.proofs.make_for.Tie as tie

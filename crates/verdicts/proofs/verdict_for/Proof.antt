@@ -1,7 +1,8 @@
 use native.Mathlib.Omega.{arith}
 use mathlib.Core.Path.{sym, _∙_}
 use Rattle.texts.proofs.Lengths.{liquid-room, frozen-room}
-use Rattle.verdicts.proofs.Verdicts.{root-first, made-liquid, made-frozen, made-count, rows-room}
+use Rattle.exits.proofs.Told.{root-first}
+use Rattle.verdicts.proofs.Verdicts.{made-liquid, made-frozen, made-count, rows-room}
 use borrow.Author.Needs.{needs}
 use Rattle.verdicts.proofs.verdict_for.Statement.{statement}
 use Rattle.verdicts.proofs.verdict_for.Tie as tie

@@ -211,14 +211,14 @@ pub fn toward(t: &[usize], dist: &[usize; Sheet::NODES], n: usize, x: &[usize]) 
 {
     let k = dist[n] - 1;
     let count = branch_count(t, n);
-    let mut i = 0;
-    while i < count {
-        let b = branch_of(t, x, n, i);
+    let mut branch = 0;
+    while branch < count {
+        let b = branch_of(t, x, n, branch);
         let m = node_toward(t, dist, b, k, x);
         if m < Sheet::NODES {
-            return Turn { branch: i, node: m };
+            return Turn { branch, node: m };
         }
-        i += 1;
+        branch += 1;
     }
     Turn { branch: 0, node: n }
 }

@@ -8,7 +8,7 @@ use mathlib.Core.Bool.{Bool, true, false, false≢true, not, cond}
 use mathlib.Core.List.{List, [], _∷_, _++_, List·Memᴰ}
 use lib.ListN.{length, getD}
 use lib.Dec.{eqb, ltb}
-use borrow.Author.Tests.{eq-eqb, ne-eqb, ltb-true, lt-ltb}
+use borrow.Author.Tests.{eq-eqb, ne-eqb, ltb-true, lt-ltb, not-false}
 use Rattle.bitml.specs.Lists.{_&_, _⇒_, ask, every, below}
 use Rattle.bitml.specs.Sheet.{Sheet, Branch, Cond, Action, withdraw, split, reveal, renewAs, nodeAt, branchesAt, branchAt, signs, owns, parts}
 use Rattle.bitml.specs.Runs.{onlySigner, countsAlways, ownAction, own, Exit, leave}
@@ -86,10 +86,6 @@ passed-none k (false ∷ ts) us e = absurd (false≢true e)
 mem-not-every : {A : Type 0} (t : A → Bool) {y : A} (xs : List A) → List·Memᴰ y xs → t y ≡ false → every t xs ≡ false
 mem-not-every t xs h e = is-false _ (λ a. false≢true (sym e ∙ every-mem t xs a h))
 
-not-no : (b : Bool) → not b ≡ false → b ≡ true
-not-no true e = refl
-not-no false e = sym e
-
 other : (a b : Bool) → a ≡ true → b ≡ false → (a ⇒ b) ≡ false
 unfolding _⇒_
 other a b e f = rw (e, f)
@@ -115,7 +111,7 @@ module _ (s : Sheet) (wf : WellFormed s) (p n : ℕ) (br : Branch) where
       let v = secret-in (br .action) (w .0) (w .1) in
       secret (v .0) (v .1) (v .2) (w .0) (v .3) (v .4) (w .2)
   test-cause (suc (suc zero)) e = let v = condition-in (br .action) e in condition (v .0) (v .1) (v .2) (v .3) (v .4)
-  test-cause (suc (suc (suc zero))) e = renewal (renewedAs (br .action)) (renewal-is (br .action) (not-no _ e))
+  test-cause (suc (suc (suc zero))) e = renewal (renewedAs (br .action)) (renewal-is (br .action) (not-false _ e))
   test-cause (suc (suc (suc (suc zero)))) e =
       let w = every-not-mem (λ m. ltb 0 (rankAt s p m)) (parts (br .action)) e in
       contract (w .0) (w .1) (λ x. false≢true (sym (w .2) ∙ lt-ltb _ _ (exit-ranked s wf p (w .0) x)))

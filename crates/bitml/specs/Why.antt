@@ -19,9 +19,11 @@ pub record Move : Type 0 where
   pub node : ℕ
   pub branch : ℕ
 
+-- "A step replaces one node, by any of its branches": which node, and which branch
 abbrev pub moveOf : {s : Sheet} {xs ys : List ℕ} → Step s xs ys → Move
 moveOf (step xs ys n b h) = record { node = n; branch = b }
 
+-- The moves of a run, in their order
 abbrev pub moves : {s : Sheet} {xs ys : List ℕ} → Run (Step s) xs ys → List Move
 moves done = []
 moves (more st r) = moveOf st ∷ moves r
@@ -73,6 +75,7 @@ trail s t (suc k) xs =
     let b = branchToward s t k n in
     record { node = n; branch = b } ∷ trail s t k (next s (branchAt s n b .action))
 
+-- "no shorter run": how many steps a run from the start needs, looked for up to the number of nodes, which is enough
 unfoldable pub distance : Sheet → ℕ → ℕ
 distance s t = lowest (λ k. near s t k (defAt s 0 .root)) 0 (length (s .nodes))
 
@@ -96,6 +99,7 @@ pub record LowestCause (s : Sheet) (p n : ℕ) (br : Branch) (k : ℕ) : Type 0 
   pub holds : Cause s p n br k
   pub lowest : (j : ℕ) → j < k → Cause s p n br j → ⊥
 
+-- "`r`, count (1 to 8), secrets, condition, contract": what an action lists and asks; any other lists nothing, and asks what always holds
 abbrev pub secretsOf : Action → List ℕ
 secretsOf (withdraw q) = []
 secretsOf (split qs) = []
@@ -130,6 +134,7 @@ failing k (t ∷ ts) = ask t k (failing (suc k) ts)
 unfoldable pub bar : Sheet → ℕ → ℕ → Branch → ℕ
 bar s p n br = failing 1 (ownTests s p n br)
 
+-- "The lowest that applies": 0 where none does
 unfoldable pub cause : Sheet → ℕ → ℕ → Branch → ℕ
 cause s p n br = failing 1 (clear s p n br)
 

@@ -1,4 +1,4 @@
--- What is proved of the reply to every request: demands 2 and 3, from the bytes on. Assumes nothing.
+-- What is proved of the reply to every request: demands 2 and 3, and what `why` tells, from the bytes on. Assumes nothing.
 use mathlib.Core.Path.{_≡_}
 use mathlib.Core.Logic.{_⊎_}
 use Prim.Native.Nat.{ℕ, _+_, _≤_, _<_}

@@ -5,17 +5,17 @@ use Prim.Native.Nat.{ℕ, zero, suc, _+_, _-_, _≤_, _<_}
 use native.Mathlib.Omega.{arith}
 use native.Mathlib.Decide.{decLe}
 use mathlib.Core.Bool.{Bool, true, false, false≢true, cond}
-use mathlib.Core.List.{List, [], _∷_, List·Memᴰ, List·Memᴰ·head, List·Memᴰ·tail, List·Memᴰ·eq-of-singleton}
+use mathlib.Core.List.{List, [], _∷_, List·Memᴰ, List·Memᴰ·head, List·Memᴰ·eq-of-singleton}
 use lib.ListN.{length, getD}
 use Rattle.bitml.specs.Lists.{keep, any, upFrom}
 use Rattle.bitml.specs.Sheet.{branchesAt, branchAt, parts}
 use Rattle.bitml.specs.Runs.{next}
 use Rattle.bitml.specs.Why.{near, branchToward, trail}
-use Rattle.bitml.proofs.Lists.{is-false, any-mem, mem-any, all-of, keep-imp, up-mem}
+use Rattle.bitml.proofs.Lists.{is-false, any-mem, mem-any, all-of, all-mem, keep-imp, up-mem}
 use Rattle.bitml.proofs.Shortest.{lowest-is, near-step, near-branch, trail-one, trail-lowest}
 use Rattle.tables.specs.Entries.{Entries}
 use Rattle.tables.specs.SheetOf.{sheetOf, branchOf, actionOf, branchEntryAt, defEntryAt, branchCount, branchNumber, partNumbers, partCount, partNumber}
-use Rattle.tables.proofs.SheetOf.{nodes-are, count-of, branch-of, branch-small, part-small, next-renewal}
+use Rattle.tables.proofs.SheetOf.{all-in, nodes-are, count-of, branch-of, branch-small, part-small, next-renewal}
 use Rattle.reader.specs.Promises.{Promises}
 use Rattle.reader.proofs.Formed.{place-of, parts-are-nodes}
 use Rattle.ways.specs.declared.Turn.{Turn}
@@ -25,9 +25,7 @@ use Rattle.ways.proofs.Leading.{before-of}
 -- ---- the lowest of a list
 
 mem-at : (xs : List ℕ) (i : ℕ) → i < length xs → List·Memᴰ (getD xs i 0) xs
-mem-at [] i h = absurd (omega arith)
-mem-at (x ∷ xs) zero h = List·Memᴰ·head refl
-mem-at (x ∷ xs) (suc i) h = List·Memᴰ·tail (mem-at xs i (omega arith))
+mem-at xs i h = all-in xs i (all-mem (λ y. List·Memᴰ y xs) xs (λ y m. m)) h
 
 -- what is kept of numbers that count up rises
 kept-rise : (T : ℕ → Bool) (a n i j : ℕ) → i ≤ j → j < length (keep T (upFrom a n)) → getD (keep T (upFrom a n)) i 0 ≤ getD (keep T (upFrom a n)) j 0

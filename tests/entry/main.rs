@@ -11,8 +11,8 @@
 //! garbage, and what lies outside the lent parts must stay.  Of each answer the reply, every byte of
 //! text and every row is compared; a `makeall` also with the library's own answers to `make` for one
 //! participant after the other, and the first line of a `why` with the last of the library's own `make`.
-//! The rows of a `make` are given back to `check`, in order and in another order.  Every number from 1 to 19 must occur, and 21.  sheets.rs does the same for sheets as tables,
-//! for a tenth of COUNT texts.
+//! The rows of a `make` are given back to `check`, in order and in another order.  Every number from 1
+//! to 19 must occur, and 21.  sheets.rs does the same for sheets as tables, for a tenth of COUNT texts.
 
 #[path = "../model/buffers.rs"]
 mod buffers;
@@ -30,6 +30,8 @@ mod model;
 mod sheets;
 #[path = "../model/tables.rs"]
 mod tables;
+#[path = "../model/whys.rs"]
+mod whys;
 
 use std::ops::Range;
 use std::path::{Path, PathBuf};
@@ -38,6 +40,7 @@ use std::process::ExitCode;
 use generate::{Generator, Random};
 use library::{Reply, Row};
 use model::sheets::Answer;
+use whys::Whys;
 
 /// So many requests of a fixed seed show every number by themselves.
 const GENERATED: usize = 20_000;
@@ -105,14 +108,6 @@ fn row((node, branch, rank): &model::Place) -> Row {
 fn asks_all(request: &[u8]) -> bool {
     let mut lines = request.split(|byte| *byte == b'\n');
     lines.any(|line| line.starts_with(b"makeall"))
-}
-
-/// The sheet and the participant of a request that ends in a line `why`.
-fn why_asked(request: &[u8]) -> Option<(&[u8], &[u8])> {
-    let lines = request.strip_suffix(b"\n")?;
-    let last = lines.iter().rposition(|byte| *byte == b'\n')? + 1;
-    let participant = lines[last..].strip_prefix(b"why,")?;
-    Some((&lines[..last], participant))
 }
 
 /// The first place at which a buffer is not `due` with zeros past it.
@@ -387,11 +382,7 @@ struct Counts {
     /// Answers to `makeall`; those that are liquid for some and frozen for others.
     parties: usize,
     mixed: usize,
-    /// Answers to `why`; those that are frozen, those with two steps or more, and the most steps.
-    whys: usize,
-    frozen_whys: usize,
-    runs: usize,
-    longest_run: usize,
+    whys: Whys,
     plays: usize,
     taken: usize,
     most_rows: usize,
@@ -413,8 +404,8 @@ impl Counts {
             return;
         }
         self.long += usize::from(!all && parts.rows.len() >= library::ALL_ROWS);
-        if why_asked(request).is_some() {
-            return self.add_why(text);
+        if whys::asked(request).is_some() {
+            return self.whys.add(text);
         }
         let mixed = text.contains("liquid,") && text.contains("frozen,");
         self.mixed += usize::from(mixed);
@@ -435,17 +426,6 @@ impl Counts {
         }
     }
 
-    fn add_why(&mut self, text: &str) {
-        let steps = text
-            .lines()
-            .filter(|line| line.starts_with("step,"))
-            .count();
-        self.whys += 1;
-        self.frozen_whys += usize::from(text.starts_with("frozen,"));
-        self.runs += usize::from(steps >= 2);
-        self.longest_run = self.longest_run.max(steps);
-    }
-
     fn times(&self, number: usize) -> usize {
         self.refused_requests[number] + self.refused_events[number]
     }
@@ -464,9 +444,12 @@ impl Counts {
             ("frozen", self.frozen),
             ("all parties", self.parties),
             ("some parties liquid", self.mixed),
-            ("why", self.whys),
-            ("why of a liquid sheet", self.whys - self.frozen_whys),
-            ("a run of two steps", self.runs),
+            ("why", self.whys.answers),
+            (
+                "why of a liquid sheet",
+                self.whys.answers - self.whys.frozen,
+            ),
+            ("a run of two steps", self.whys.runs),
             ("a play", self.plays),
             ("taken", self.taken),
             ("short buffers", self.short),
@@ -598,7 +581,7 @@ impl Test {
         if let Some(sheet) = request.strip_suffix(b"makeall\n") {
             self.one_by_one(name, sheet, &printed, &parts);
         }
-        if let Some((sheet, participant)) = why_asked(request) {
+        if let Some((sheet, participant)) = whys::asked(request) {
             self.as_made(name, sheet, participant, &printed);
         }
         Some(printed)
@@ -796,10 +779,7 @@ impl Test {
             "  all parties {}, some of them liquid {}, too few rows for them {}",
             counts.parties, counts.mixed, counts.few
         );
-        println!(
-            "  why {}, frozen {}, with two steps or more {}, the longest run {}",
-            counts.whys, counts.frozen_whys, counts.runs, counts.longest_run
-        );
+        println!("  {}", counts.whys);
         println!(
             "  {} calls, {} with short buffers, {} with long ones, {} after garbage; most rows {}, longest text {}",
             counts.calls, counts.short, counts.long, counts.garbage, counts.most_rows, counts.longest_text

@@ -21,6 +21,7 @@ mod model;
 #[cfg(wrong_rules)]
 mod pins;
 mod tables;
+mod whys;
 
 use std::collections::{BTreeMap, HashMap, HashSet, VecDeque};
 use std::io::{Read, Write};
@@ -31,12 +32,7 @@ use cases::{chain, sheet_up_to, sixteen_parties, Case, D, R, T};
 use generate::{Generator, Random};
 use model::sheets::{self, read_sheet, write_sheet};
 use model::{Action, Condition, Expression, LastPart, Ledger, Reply, Row, Sheet, Step};
-
-/// Is the last line a `why`?
-fn asks_why(request: &[u8]) -> bool {
-    let lines: Vec<&[u8]> = request.split(|byte| *byte == b'\n').collect();
-    lines.len() > 1 && lines[lines.len() - 2].starts_with(b"why,")
-}
+use whys::Whys;
 
 /// Counts the cases and keeps those that failed.
 #[derive(Default)]
@@ -57,7 +53,7 @@ impl Cases {
             ));
         }
         // The row buffer is zero unless the sheet was found liquid by a word other than `why`.
-        let liquid = printed.contains("liquid,") && !asks_why(request);
+        let liquid = printed.contains("liquid,") && whys::asked(request).is_none();
         if rows.iter().any(|(_, _, rank)| *rank > 0) != liquid {
             self.failed
                 .push(format!("{name}: row buffer {rows:?} with {printed:?}"));
@@ -637,11 +633,7 @@ struct Counts {
     /// Answers to `makeall`, and those that are liquid for some and frozen for others.
     parties: usize,
     mixed: usize,
-    /// Answers to `why`; those that are frozen, those with two steps or more, and the most steps.
-    whys: usize,
-    frozen_whys: usize,
-    runs: usize,
-    longest_run: usize,
+    whys: Whys,
     taken: usize,
     events: usize,
     plays: usize,
@@ -682,12 +674,8 @@ fn generated(seed: u64, count: usize) -> Counts {
             let mixed = text.contains("liquid,") && text.contains("frozen,");
             counts.mixed += usize::from(mixed);
         }
-        if asks_why(&request) {
-            let steps = text.matches("step,").count();
-            counts.whys += 1;
-            counts.frozen_whys += usize::from(text.contains("frozen,"));
-            counts.runs += usize::from(steps >= 2);
-            counts.longest_run = counts.longest_run.max(steps);
+        if whys::asked(&request).is_some() {
+            counts.whys.add(&text);
             continue;
         }
         for line in text.lines() {
@@ -897,10 +885,7 @@ fn selftest(folder: &Path, lists: &Path) -> Result<bool, String> {
         counts.events,
         counts.taken
     );
-    println!(
-        "  why {}, frozen {}, with two steps or more {}, the longest run {}",
-        counts.whys, counts.frozen_whys, counts.runs, counts.longest_run
-    );
+    println!("  {}", counts.whys);
     println!("  requests that were read and reach a limit without passing it:");
     for limit in LIMITS {
         let count = counts.limits.get(limit).copied().unwrap_or(0);
@@ -922,7 +907,7 @@ fn selftest(folder: &Path, lists: &Path) -> Result<bool, String> {
     }
     cases.holds(
         "a quarter of the answers to `why` have two steps",
-        4 * counts.runs >= counts.whys,
+        4 * counts.whys.runs >= counts.whys.answers,
     );
 
     // The same failure may occur many times over; show each kind once.

@@ -2,9 +2,10 @@
 //!
 //! The model names them where they apply: `rule!(right; Name: wrong, ..)` for a rule, `limit!(Name, most)`
 //! for a limit, which is also tried one higher and one lower, and `lower!(one, other)` and
-//! `cause!(one, other)` for the order of two refusals and of two causes.  `number!(Name, p)` is 2^p, which stands for participant p in a signers field: each
-//! is also tried in the place of the next.  `asking!(value)` marks where the value of a condition is asked
-//! for an own branch: the rules of conditions are tried there alone, in the ledger alone, and in both.
+//! `cause!(one, other)` for the order of two refusals and of two causes.  `number!(Name, p)` is 2^p, which
+//! stands for participant p in a signers field: each is also tried in the place of the next.
+//! `asking!(value)` marks where the value of a condition is asked for an own branch: the rules of
+//! conditions are tried there alone, in the ledger alone, and in both.
 //! Without `--cfg wrong_rules` these are the right expression and nothing else is run.  With it one wrong
 //! rule at a time can be turned on, and pins.rs shows that some case then has another answer.
 
@@ -31,7 +32,6 @@ macro_rules! lower {
         $one.min($other)
     };
 }
-
 #[cfg(not(wrong_rules))]
 macro_rules! cause {
     ($one:expr, $other:expr) => {
@@ -73,7 +73,6 @@ macro_rules! lower {
         wrong::lower($one, $other)
     };
 }
-
 #[cfg(wrong_rules)]
 macro_rules! cause {
     ($one:expr, $other:expr) => {

@@ -11,7 +11,7 @@ use lib.Seq.{getD-drop}
 use lib.Dec.{eqb, ltb, leb}
 use borrow.Author.Tests.{eqb-true, eqb-false, ltb-true, ltb-false, leb-true, leb-false, lt-ltb, le-ltb}
 use Rattle.bitml.specs.Lists.{_&_, _or_, sum, every, any, upFrom, All, nil, cons}
-use Rattle.bitml.specs.Sheet.{Sheet, Node, branchesAt, branchAt, nodeAt, parts}
+use Rattle.bitml.specs.Sheet.{Sheet, Node, noNode, branchesAt, branchAt, nodeAt, parts}
 use Rattle.bitml.specs.Runs.{OwnStep, ownStep, Run, done, more, Exit, next, own}
 use Rattle.bitml.specs.Promises.{WellFormed}
 use Rattle.bitml.specs.Rule.{Choice, noChoice, costOf, cost, better, choose, choices, choiceAt, rankAt, candidates}
@@ -137,10 +137,11 @@ unfolding Exit
 exit-all s p [] a = done
 exit-all s p (m ∷ ms) a = run-trans (run-frame s p ms (all-head a)) (exit-all s p ms (all-tail a))
 
-module _ (s : Sheet) (wf : WellFormed s) (p : ℕ) where
-  in-nodes : (n b : ℕ) → b < length (branchesAt s n) → n < length (s .nodes)
-  in-nodes n b h = in-range (λ nd. ltb b (length (nd .branches))) (s .nodes) n (record { definition = 0; branches = [] }) (le-ltb b 0 (omega arith)) (lt-ltb _ _ h)
+-- what has a branch is a node of the sheet
+pub in-nodes : (s : Sheet) (n b : ℕ) → b < length (branchesAt s n) → n < length (s .nodes)
+in-nodes s n b h = in-range (λ nd. ltb b (length (nd .branches))) (s .nodes) n noNode (le-ltb b 0 (omega arith)) (lt-ltb _ _ h)
 
+module _ (s : Sheet) (wf : WellFormed s) (p : ℕ) where
   candidate-in : (n b : ℕ) → List·Memᴰ b (candidates (nodeAt s n)) → b < length (branchesAt s n)
   candidate-in n b h = omega (arith, all-of (up-mem 0 (length (branchesAt s n))) h)
 
@@ -212,7 +213,7 @@ module _ (s : Sheet) (wf : WellFormed s) (p : ℕ) where
       (map-every (ltb 0) (rankAt s p) (parts act) (all-mem _ _ λ m hm. lt-ltb _ _ (all-of q′ hm))) in
       let w = choose-least (cost s p n (rankAt s p)) (candidates (nodeAt s n)) (in-candidates n b hb) (omega arith) in
       all-append (all-left xs (next s act) (all-left (xs ++ next s act) ys a))
-      (cons (subst (λ c. 0 < c .rank) (sym (choice-is n (in-nodes n b hb))) (w .0)) (all-right (xs ++ next s act) ys a))
+      (cons (subst (λ c. 0 < c .rank) (sym (choice-is n (in-nodes s n b hb))) (w .0)) (all-right (xs ++ next s act) ys a))
 
   run-back : {xs ys : List ℕ} → Run (OwnStep s p) xs ys → All (λ m. 0 < rankAt s p m) ys → All (λ m. 0 < rankAt s p m) xs
   run-back done a = a

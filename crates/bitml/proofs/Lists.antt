@@ -225,6 +225,11 @@ module _ {A : Type 0} where
   map-cong f g [] h = refl
   map-cong f g (x ∷ xs) h = ap₂ _∷_ (h x (List·Memᴰ·head refl)) (map-cong f g xs (λ y m. h y (List·Memᴰ·tail m)))
 
+  pub at-map : {B : Type 0} (f : A → B) (xs : List A) (i : ℕ) (d : A) (e : B) → i < length xs → getD (map f xs) i e ≡ f (getD xs i d)
+  at-map f [] i d e h = absurd (omega arith)
+  at-map f (x ∷ xs) zero d e h = refl
+  at-map f (x ∷ xs) (suc i) d e h = at-map f xs i d e (omega arith)
+
   pub every-map : {B : Type 0} (t : B → Bool) (f : A → B) (xs : List A) → every t (map f xs) ≡ true → All (λ x. t (f x) ≡ true) xs
   every-map t f [] e = nil
   every-map t f (x ∷ xs) e = cons (and-l _ _ e) (every-map t f xs (and-r _ _ e))

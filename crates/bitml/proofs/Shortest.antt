@@ -7,14 +7,15 @@ use native.Mathlib.Decide.{decLe}
 use mathlib.Core.Bool.{Bool, true, false, false≢true, cond}
 use mathlib.Core.List.{List, [], _∷_, _++_, List·Memᴰ, List·Memᴰ·head, List·Memᴰ·tail, Memᴰ·append-left, Memᴰ·append-right, List·Memᴰ·append-cases, List·Memᴰ·eq-of-singleton}
 use lib.ListN.{length, getD}
-use lib.Dec.{eqb, ltb}
-use borrow.Author.Tests.{eqb-true, eq-eqb, lt-ltb, le-ltb}
+use lib.Dec.{eqb}
+use borrow.Author.Tests.{eqb-true, eq-eqb}
 use Rattle.bitml.specs.Lists.{_&_, any}
-use Rattle.bitml.specs.Sheet.{Sheet, noNode, branchesAt, branchAt, noBranch, defAt}
+use Rattle.bitml.specs.Sheet.{Sheet, branchesAt, branchAt, noBranch, defAt}
 use Rattle.bitml.specs.Runs.{Step, step, Run, done, more, next}
 use Rattle.bitml.specs.Rule.{rounds, reached, leads}
 use Rattle.bitml.specs.Why.{Move, moves, LeadsTo, NotAfter, ended, by-node, by-branch, by-rest, FirstShortest, near, lowest, nodeToward, branchToward, trail, distance, stepsTo}
-use Rattle.bitml.proofs.Lists.{is-false, and-l, and-r, and-i, or-l, or-r, or-cases, or-no-l, in-range, any-mem, mem-any, any-at, at-any, mem-split}
+use Rattle.bitml.proofs.Lists.{is-false, and-l, and-r, and-i, or-l, or-r, or-cases, or-no-l, any-mem, mem-any, any-at, at-any, mem-split}
+use Rattle.bitml.proofs.Exits.{in-nodes}
 use Rattle.bitml.proofs.Reach.{marked-all}
 
 -- ---- the lowest number that passes
@@ -51,10 +52,6 @@ mid-cases : {m : ℕ} (ps xs qs : List ℕ) → List·Memᴰ m (ps ++ xs ++ qs) 
 mid-cases ps xs qs h = ⊎-elim (λ a. ⊎-elim (λ b. inl (inl b)) inr (List·Memᴰ·append-cases ps a)) (λ b. inl (inr b)) (List·Memᴰ·append-cases (ps ++ xs) h)
 
 module _ (s : Sheet) (t : ℕ) where
-  -- the node has a branch: it is a node of the sheet
-  has-node : (n b : ℕ) → b < length (branchesAt s n) → n < length (s .nodes)
-  has-node n b h = in-range (λ nd. ltb b (length (nd .branches))) (s .nodes) n noNode (le-ltb b 0 (omega arith)) (lt-ltb _ _ h)
-
   pub near-there : near s t 0 t ≡ true
   unfolding near
   near-there = eq-eqb t t refl
@@ -144,7 +141,7 @@ module _ (s : Sheet) (t : ℕ) where
       let test : ℕ → Bool = λ n. any (eqb n) xs & near s t (suc k) n in
       let w = near-branch k m e (far m hm) in
       let n = lowest test 0 (length (s .nodes)) in
-      let hit = lowest-hit test 0 (length (s .nodes)) m (and-i _ _ (mem-any (eqb m) xs hm (eq-eqb m m refl)) e) (omega arith) (omega (arith, has-node m (w .0) (w .1))) in
+      let hit = lowest-hit test 0 (length (s .nodes)) m (and-i _ _ (mem-any (eqb m) xs hm (eq-eqb m m refl)) e) (omega arith) (omega (arith, in-nodes s m (w .0) (w .1))) in
       let v = any-mem (eqb n) xs (and-l _ _ hit) in
       let hn : List·Memᴰ n xs = subst (λ a. List·Memᴰ a xs) (sym (eqb-true n (v .0) (v .2))) (v .1) in
       let b = branch-toward k n (and-r _ _ hit) (far n hn) in

@@ -1,15 +1,15 @@
 -- Every line that `why` prints for a frozen sheet may be relied on. Assumes nothing.
-use mathlib.Core.Path.{_≡_, refl, subst}
+use mathlib.Core.Path.{_≡_, sym, subst}
 use mathlib.Core.Logic.{⊎-elim}
-use Prim.Native.Nat.{ℕ, zero, suc, _<_}
+use Prim.Native.Nat.{ℕ}
 use native.Mathlib.Omega.{arith}
-use mathlib.Core.List.{List, [], _∷_, map}
-use lib.ListN.{length, getD, length-map}
-use Rattle.bitml.specs.Sheet.{Sheet, Branch, noBranch, branchesAt, branchAt}
+use lib.ListN.{length-map}
+use Rattle.bitml.specs.Sheet.{Sheet, noBranch, branchesAt, branchAt}
 use Rattle.bitml.specs.Rule.{frozen, make}
 use Rattle.bitml.specs.Promises.{WellFormed}
 use Rattle.bitml.specs.Demands.{Frozen}
 use Rattle.bitml.specs.Why.{LowestCause, cause, causes, Why}
+use Rattle.bitml.proofs.Lists.{at-map}
 use Rattle.bitml.proofs.Reach.{reached-complete}
 use Rattle.bitml.proofs.Published.{make-is}
 use Rattle.bitml.proofs.Shortest.{steps-first}
@@ -21,11 +21,6 @@ frozen-is s p wf n e = ⊎-elim
     (λ w. let q = w .1 in let z : w .0 ≡ n = cc in subst (Frozen s p) z (w .2))
     (make-is s p wf)
 
-at-map : (f : Branch → ℕ) (xs : List Branch) (b : ℕ) → b < length xs → f (getD xs b noBranch) ≡ getD (map f xs) b 0
-at-map f [] b h = absurd (omega arith)
-at-map f (x ∷ xs) zero h = refl
-at-map f (x ∷ xs) (suc b) h = at-map f xs b (omega arith)
-
 pub why : Why
 unfolding Why causes
 why s wf p n e =
@@ -33,5 +28,5 @@ why s wf p n e =
     record {
       steps = steps-first s n (reached-complete s wf n (f .reach));
       each = length-map (branchesAt s n) (cause s p n);
-      branch = λ b hb. subst (LowestCause s p n (branchAt s n b)) (at-map (cause s p n) (branchesAt s n) b hb) (lowest-cause s wf p n (branchAt s n b) (some-cause s wf p n b hb (f .no-exit)));
+      branch = λ b hb. subst (LowestCause s p n (branchAt s n b)) (sym (at-map (cause s p n) (branchesAt s n) b noBranch 0 hb)) (lowest-cause s wf p n (branchAt s n b) (some-cause s wf p n b hb (f .no-exit)));
     }

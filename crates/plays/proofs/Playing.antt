@@ -1,5 +1,5 @@
 -- The text of a play, one event more. Assumes nothing.
-use mathlib.Core.Path.{_≡_, sym, ap₂, subst}
+use mathlib.Core.Path.{_≡_, ap₂, subst}
 use mathlib.Core.Option.{Option}
 use mathlib.Core.Bool.{Bool, true, false}
 use mathlib.Core.List.{List, [], _∷_}
@@ -14,8 +14,7 @@ use Rattle.bitml.specs.Answers.{playing, eventLine, eventLines, endOf, playLine
 use Rattle.exits.specs.Made.{filled}
 use Rattle.texts.specs.Text.{lineText, linesText}
 use Rattle.texts.specs.Wrote.{Wrote}
-use Rattle.texts.proofs.Writing.{wrote-then}
-use Rattle.texts.proofs.Texts.{one-line}
+use Rattle.texts.proofs.Coming.{Coming, coming-line, coming-none}
 use Rattle.texts.proofs.Lengths.{answer-short}
 use Rattle.replies.specs.Answer.{Gives}
 use Rattle.replies.proofs.Giving.{gives-printed}
@@ -53,22 +52,15 @@ answer-most s l e k h =
 abbrev pub playText : Sheet → Ledger → ℕ → List Event → List ℕ
 playText s l k es = linesText (playLines s l k es)
 
--- A buffer that was u₀ has become u: what follows at b, once it is written, makes up the whole from `a` on
-pub record Leads (u₀ : List ℕ) (a : ℕ) (whole u : List ℕ) (b : ℕ) (rest : List ℕ) : Type 0 where
-  pub done : (v : List ℕ) (c : ℕ) → Wrote u b rest v c → Wrote u₀ a whole v c
-
-pub leads-all : (u : List ℕ) (a : ℕ) (whole : List ℕ) → Leads u a whole u a whole
-leads-all u a whole = record { done = λ v c w. w }
-
 module _ {u₀ whole u v : List ℕ} {a b c : ℕ} (s : Sheet) (l : Ledger) (k : ℕ) where
-  pub leads-more : (e : Event) (es : List Event) → Leads u₀ a whole u b (playText s l k (e ∷ es)) → Wrote u b (lineText (eventLine k (limitedRefusal s l e))) v c
-      → Leads u₀ a whole v c (playText s (limitedStep s l e) (suc k) es)
-  unfolding playLines eventLines answers limitedPlay linesText
-  leads-more e es t x = record { done = λ z d w. t .done z d (wrote-then x w) }
+  pub coming-more : (e : Event) (es : List Event) → Coming u₀ a whole u b (playText s l k (e ∷ es)) → Wrote u b (lineText (eventLine k (limitedRefusal s l e))) v c
+      → Coming u₀ a whole v c (playText s (limitedStep s l e) (suc k) es)
+  unfolding playLines eventLines answers limitedPlay
+  coming-more e es = coming-line _ _
 
-  pub leads-end : Leads u₀ a whole u b (playText s l k []) → Wrote u b (lineText (endOf l)) v c → Wrote u₀ a whole v c
-  unfolding playLines eventLines answers limitedPlay linesText
-  leads-end t x = t .done v c (subst (λ zs. Wrote u b zs v c) (sym (one-line (endOf l))) x)
+  pub coming-end : Coming u₀ a whole u b (playText s l k []) → Wrote u b (lineText (endOf l)) v c → Wrote u₀ a whole v c
+  unfolding playLines eventLines answers limitedPlay
+  coming-end t x = coming-none (coming-line (endOf l) [] t x)
 
 -- the whole text is the answer
 pub play-gives : (s : Sheet) (vs : List (Option ℕ)) (es : List Event) (l : Ledger) (first n m k : ℕ) (u z b : List ℕ) → l ≡ stipulated s vs → first ≡ length (s .defs) + 3

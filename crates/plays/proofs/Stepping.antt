@@ -29,11 +29,12 @@ use Rattle.ledger.specs.Fit.{Fit}
 use Rattle.ledger.specs.Does.{Does, renewal}
 use Rattle.texts.specs.Text.{lineText}
 use Rattle.texts.specs.Wrote.{Wrote}
+use Rattle.texts.proofs.Coming.{Coming, coming-all}
 use Rattle.plays.specs.Values.{Valued}
 use Rattle.plays.specs.Events.{eventOf, eventsOf}
 use Rattle.plays.proofs.Reading.{values-are}
 use Rattle.plays.proofs.Events.{events-none, next-read, event-read, events-more, events-good, line-within, line-long}
-use Rattle.plays.proofs.Playing.{answer-most, playText, Leads, leads-all, leads-more, leads-end}
+use Rattle.plays.proofs.Playing.{answer-most, playText, coming-more, coming-end}
 
 -- ---- an event line
 
@@ -122,7 +123,7 @@ pub record Goes (s t : List ℕ) (from first : ℕ) (text₀ : List ℕ) (l₀ :
   -- An event line has 7 bytes or more, and its answer 19 at the most
   pub room : 7 * e ≤ 19 * (at - from)
   pub lines-few : line ≤ first + (at - from)
-  pub leads : Leads text₀ 0 (playText (sheetIn t) (view (people t) l₀) first (eventsOf s (people t) from)) text e (playText (sheetIn t) (view (people t) l) line (eventsOf s (people t) at))
+  pub coming : Coming text₀ 0 (playText (sheetIn t) (view (people t) l₀) first (eventsOf s (people t) from)) text e (playText (sheetIn t) (view (people t) l) line (eventsOf s (people t) at))
 
 module _ (s t : List ℕ) (from first : ℕ) (text₀ : List ℕ) (l₀ : Ledger) where
   pub goes-start : Fit t l₀ → eventsAt s (people t) from ≡ lines.Good → from ≤ length s → Goes s t from first text₀ l₀ text₀ l₀ from first 0
@@ -135,15 +136,15 @@ module _ (s t : List ℕ) (from first : ℕ) (text₀ : List ℕ) (l₀ : Ledger
         long = refl;
         room = omega arith;
         lines-few = omega arith;
-        leads = leads-all text₀ 0 (playText (sheetIn t) (view (people t) l₀) first (eventsOf s (people t) from));
+        coming = coming-all text₀ 0 (playText (sheetIn t) (view (people t) l₀) first (eventsOf s (people t) from));
       }
 
   module _ (text : List ℕ) (l : Ledger) (at line e : ℕ) (g : Goes s t from first text₀ l₀ text l at line e) where
     pub goes-end : length s ≤ at → (v : List ℕ) (c : ℕ) → Wrote text e (lineText (endOf (view (people t) l))) v c
         → Wrote text₀ 0 (playText (sheetIn t) (view (people t) l₀) first (eventsOf s (people t) from)) v c
     goes-end h v c w =
-        leads-end (sheetIn t) (view (people t) l) line
-        (subst (λ es. Leads text₀ 0 (playText (sheetIn t) (view (people t) l₀) first (eventsOf s (people t) from)) text e (playText (sheetIn t) (view (people t) l) line es)) (events-none s (people t) at h) (g .leads))
+        coming-end (sheetIn t) (view (people t) l) line
+        (subst (λ es. Coming text₀ 0 (playText (sheetIn t) (view (people t) l₀) first (eventsOf s (people t) from)) text e (playText (sheetIn t) (view (people t) l) line es)) (events-none s (people t) at h) (g .coming))
         w
 
     module _ (more : at < length s) (x : read.Event) (rd : x ≡ eventAt s (people t) at) where
@@ -183,11 +184,11 @@ module _ (s t : List ℕ) (from first : ℕ) (text₀ : List ℕ) (l₀ : Ledger
               long = w .long ∙ g .long;
               room = omega (arith, g .room, g .on, w′ .end);
               lines-few = omega (arith, g .lines-few, g .on);
-              leads =
-                  subst (λ (p : ℕ). Leads text₀ 0 whole v c (playText S (view (people t) m) p (eventsOf s (people t) q))) (sym (add-one line))
-                  (subst (λ p. Leads text₀ 0 whole v c (playText S p (suc line) (eventsOf s (people t) q))) (sym (d .plain))
-                  (leads-more S P line y (eventsOf s (people t) q)
-                  (subst (λ es. Leads text₀ 0 whole text e (playText S P line es)) (events-more s (people t) at more (g .good) x rd 0 q z) (g .leads))
+              coming =
+                  subst (λ (p : ℕ). Coming text₀ 0 whole v c (playText S (view (people t) m) p (eventsOf s (people t) q))) (sym (add-one line))
+                  (subst (λ p. Coming text₀ 0 whole v c (playText S p (suc line) (eventsOf s (people t) q))) (sym (d .plain))
+                  (coming-more S P line y (eventsOf s (people t) q)
+                  (subst (λ es. Coming text₀ 0 whole text e (playText S P line es)) (events-more s (people t) at more (g .good) x rd 0 q z) (g .coming))
                   w′));
             }
 

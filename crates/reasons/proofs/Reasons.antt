@@ -13,7 +13,7 @@ use Rattle.bitml.specs.Sheet.{Sheet, noBranch, defAt, branchesAt, branchAt}
 use Rattle.bitml.specs.Rule.{Verdict, frozen, make, reached}
 use Rattle.bitml.specs.Runs.{Exit}
 use Rattle.bitml.specs.Why.{trail, stepsTo, distance, bar, cause, causes}
-use Rattle.bitml.specs.Answers.{Line, liquidLine, frozenLine, stepLine, branchLine, branchLines, whyLines, explaining, answer}
+use Rattle.bitml.specs.Answers.{liquidLine, frozenLine, stepLine, branchLine, branchLines, whyLines, explaining, answer}
 use Rattle.bitml.proofs.Lists.{is-false}
 use Rattle.bitml.proofs.Reach.{reached-complete, reached-in}
 use Rattle.bitml.proofs.Why.{frozen-is}
@@ -31,27 +31,11 @@ use Rattle.ways.specs.declared.Turn.{Turn}
 use Rattle.ways.specs.Distances.{Distances, Turned}
 use Rattle.texts.specs.Text.{lineText, linesText}
 use Rattle.texts.specs.Wrote.{Wrote}
-use Rattle.texts.proofs.Writing.{wrote-none, wrote-then}
+use Rattle.texts.proofs.Writing.{wrote-then}
+use Rattle.texts.proofs.Coming.{Coming, coming-all, coming-line, coming-none}
 use Rattle.texts.proofs.Texts.{lines-append, one-line}
 use Rattle.replies.specs.Answer.{Gives}
 use Rattle.replies.proofs.Giving.{gives-printed}
-
--- ---- lines that are still to come
-
--- Once ys stands from b on in the buffer u, the buffer that was u₀ has xs from a on
-pub record Coming (u₀ : List ℕ) (a : ℕ) (xs u : List ℕ) (b : ℕ) (ys : List ℕ) : Type 0 where
-  whole : (v : List ℕ) (r : ℕ) → Wrote u b ys v r → Wrote u₀ a xs v r
-
-coming-all : (u : List ℕ) (a : ℕ) (xs : List ℕ) → Coming u a xs u a xs
-coming-all u a xs = record { whole = λ v r w. w }
-
-coming-line : {u₀ xs u v : List ℕ} {a b c : ℕ} (l : Line) (ls : List Line) → Coming u₀ a xs u b (linesText (l ∷ ls)) → Wrote u b (lineText l) v c → Coming u₀ a xs v c (linesText ls)
-unfolding linesText
-coming-line l ls m w = record { whole = λ z r y. m .whole z r (wrote-then w y) }
-
-coming-none : {u₀ xs u : List ℕ} {a b : ℕ} → Coming u₀ a xs u b (linesText []) → Wrote u₀ a xs u b
-unfolding linesText
-coming-none {u = u} {b = b} m = m .whole u b (wrote-none u b)
 
 -- ---- the lines `branch`
 

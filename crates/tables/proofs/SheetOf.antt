@@ -11,16 +11,11 @@ use borrow.Author.Tests.{eqb-true}
 use Rattle.bitml.specs.Lists.{below, keep, All}
 use Rattle.bitml.specs.Sheet.{nodeAt, defAt, branchesAt, branchAt, noNode, noBranch, parts}
 use Rattle.bitml.specs.Runs.{next}
-use Rattle.bitml.proofs.Lists.{getD-up, length-up, all-head, all-tail, keep-imp, keep-all, up-mem}
+use Rattle.bitml.proofs.Lists.{at-map, getD-up, length-up, all-head, all-tail, keep-imp, keep-all, up-mem}
 use Rattle.tables.specs.Entries.{Entries}
 use Rattle.tables.specs.SheetOf.{nodeEntryAt, branchEntryAt, defEntryAt, branchNumbers, branchCount, branchNumber, partNumbers, partCount, partNumber, partOf, actionOf, branchOf, nodeOf, depositOf, ownerOf, defOf, sheetOf}
 
 -- ---- lists
-
-getD-in : {B : Type 0} (f : ℕ → B) (xs : List ℕ) (i : ℕ) (d : B) → i < length xs → getD (map f xs) i d ≡ f (getD xs i 0)
-getD-in f [] i d h = absurd (omega arith)
-getD-in f (x ∷ xs) zero d h = refl
-getD-in f (x ∷ xs) (suc i) d h = getD-in f xs i d (omega arith)
 
 -- a fact about every element holds at an index in range
 pub all-in : {Q : ℕ → Type 0} (xs : List ℕ) (i : ℕ) → All Q xs → i < length xs → Q (getD xs i 0)
@@ -97,7 +92,7 @@ module _ (K : ℕ) (E : Entries) where
 
   pub branch-of : (n i : ℕ) → n < length (E .nodes) → i < branchCount E n → branchAt (sheetOf K E) n i ≡ branchOf E (branchNumber E n i)
   unfolding branchCount branchNumber
-  branch-of n i h l = ap (λ bs. getD bs i noBranch) (branches-are n h) ∙ getD-in (branchOf E) (branchNumbers E n) i noBranch l
+  branch-of n i h l = ap (λ bs. getD bs i noBranch) (branches-are n h) ∙ at-map (branchOf E) (branchNumbers E n) i 0 noBranch l
 
 -- ---- entries that belong together
 

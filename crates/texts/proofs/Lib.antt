@@ -1,4 +1,5 @@
 pub mod Writing
+pub mod Coming
 pub mod Texts
 pub mod Lengths
 pub mod Examples

@@ -18,7 +18,6 @@ use Rattle.tables.specs.SheetOf.{sheetOf, branchOf, actionOf, branchEntryAt, de
 use Rattle.tables.proofs.SheetOf.{all-in, nodes-are, count-of, branch-of, branch-small, part-small, next-renewal}
 use Rattle.reader.specs.Promises.{Promises}
 use Rattle.reader.proofs.Formed.{place-of, parts-are-nodes}
-use Rattle.ways.specs.declared.Turn.{Turn}
 use Rattle.ways.specs.Distances.{Distances, Lowest, Found, Turned}
 use Rattle.ways.proofs.Leading.{before-of}
 

@@ -10,7 +10,8 @@ use Rattle.tables.specs.SheetOf.{sheetIn}
 use Rattle.tables.proofs.SheetOf.{count-of}
 use Rattle.texts.specs.Text.{linesText}
 use Rattle.texts.proofs.Lengths.{branch-room}
-use Rattle.reasons.proofs.Reasons.{Coming, causesFrom, causes-start, causes-next, causes-end}
+use Rattle.texts.proofs.Coming.{Coming}
+use Rattle.reasons.proofs.Reasons.{causesFrom, causes-start, causes-next, causes-end}
 use Rattle.reasons.proofs.put_causes.Statement.{statement}
 use Rattle.reasons.proofs.put_causes.Tie as tie
 

@@ -12,7 +12,8 @@ use Rattle.tables.proofs.SheetOf.{nodes-are}
 use Rattle.exits.proofs.Buffer.{no-marks}
 use Rattle.texts.specs.Text.{linesText}
 use Rattle.texts.proofs.Lengths.{step-room}
-use Rattle.reasons.proofs.Reasons.{Coming, wayFrom, start-is, way-start, way-whole, way-next, way-end}
+use Rattle.texts.proofs.Coming.{Coming}
+use Rattle.reasons.proofs.Reasons.{wayFrom, start-is, way-start, way-whole, way-next, way-end}
 use Rattle.reasons.proofs.put_way.Statement.{statement}
 use Rattle.reasons.proofs.put_way.Tie as tie
 

@@ -1,5 +1,4 @@
 use native.Mathlib.Omega.{arith}
-use mathlib.Core.Path.{_∙_}
 use Rattle.sheets.proofs.Indexing.{keys-arguments, named}
 use borrow.Author.Needs.{needs}
 use Rattle.sheets.proofs.index_namers.Statement.{statement}

@@ -1,13 +1,12 @@
 use borrow.Author.Needs.{needs}
 use native.Mathlib.Omega.{arith}
 use Prim.Native.Nat.{_-_, _≤_, _<_}
-use mathlib.Core.Path.{_≡_, refl, sym, _∙_, subst}
-use lib.ListN.{getD, length-replicate}
+use mathlib.Core.Path.{_≡_, refl, _∙_, subst}
+use lib.ListN.{getD}
 use Rattle.tables.specs.Entries.{held, people}
 use Rattle.bitml.proofs.Shortest.{near-there}
 use Rattle.ways.specs.Marks.{Marked, Close, LedUpTo}
-use Rattle.sheets.specs.Ready.{Named}
-use Rattle.ways.proofs.Queue.{tail-le, grew-mark}
+use Rattle.ways.proofs.Queue.{tail-le}
 use Rattle.ways.proofs.Leading.{marked-none, close-none, first-mark, close-first, led-first, led-next, close-next, all-exact}
 use Rattle.ways.proofs.distances.Statement.{statement}
 use Rattle.ways.proofs.distances.Tie as tie

@@ -1,6 +1,6 @@
 use native.Mathlib.Omega.{arith}
 use Rattle.exits.proofs.Queue.{positive}
-use Rattle.ways.proofs.Queue.{tail-le, visit-in, visit-room, visit-grew, visit-close, visit-marked, visit-more, grew-same}
+use Rattle.ways.proofs.Queue.{tail-le, visit-room, visit-grew, visit-close, visit-marked, visit-more, grew-same}
 use borrow.Author.Needs.{needs}
 use Rattle.ways.proofs.visit.Statement.{statement}
 use Rattle.ways.proofs.visit.Tie as tie

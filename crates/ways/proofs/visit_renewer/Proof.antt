@@ -2,7 +2,6 @@ use native.Mathlib.Omega.{arith}
 use mathlib.Core.Path.{_≡_, sym, subst, _∙_}
 use mathlib.Core.Bool.{true}
 use Rattle.bitml.specs.Why.{near}
-use Rattle.tables.specs.Entries.{held}
 use Rattle.tables.specs.SheetOf.{sheetIn}
 use Rattle.ways.proofs.Queue.{grew-same}
 use Rattle.ways.proofs.Leading.{renewer-other, renewer-led}

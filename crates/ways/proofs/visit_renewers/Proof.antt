@@ -1,11 +1,10 @@
 use borrow.Author.Needs.{needs}
 use native.Mathlib.Omega.{arith}
 use Prim.Native.Nat.{_-_, _≤_, _<_}
-use mathlib.Core.Path.{_≡_, sym, subst, _∙_}
+use mathlib.Core.Path.{_≡_, sym, subst}
 use lib.ListN.{length}
-use Rattle.bitml.specs.Why.{near}
 use Rattle.tables.specs.Entries.{held, people}
-use Rattle.tables.specs.SheetOf.{sheetIn, branchEntryAt}
+use Rattle.tables.specs.SheetOf.{branchEntryAt}
 use Rattle.sheets.specs.Ready.{namers}
 use Rattle.sheets.proofs.Indexing.{namer-is}
 use Rattle.ways.specs.Marks.{Marked, Close, Grew, RenewerLed, RenewersLed}

@@ -7,7 +7,7 @@ use native.Mathlib.Decide.{decLe}
 use native.Mathlib.Nat.{suc-ne-zero}
 use mathlib.Core.Bool.{Bool, true, false, not, false≢true, true≢false, cond}
 use mathlib.Core.List.{List, [], _∷_, _++_, map, List·Memᴰ, List·Memᴰ·head, List·Memᴰ·tail, nil≢cons, head-eq-of-cons-eq, append-assoc}
-use lib.ListN.{length, getD, set, length-append}
+use lib.ListN.{length, getD, set, length-append, replicate}
 use Rattle.bitml.specs.Lists.{_&_, _or_, _⇒_, ask, sum, every, any, keep, gather, All, nil, cons, upFrom}
 
 -- a test that can't pass
@@ -229,6 +229,11 @@ module _ {A : Type 0} where
   at-map f [] i d e h = absurd (omega arith)
   at-map f (x ∷ xs) zero d e h = refl
   at-map f (x ∷ xs) (suc i) d e h = at-map f xs i d e (omega arith)
+
+  pub at-replicate : (n i : ℕ) (a : A) → getD (replicate n a) i a ≡ a
+  at-replicate zero i a = refl
+  at-replicate (suc n) zero a = refl
+  at-replicate (suc n) (suc i) a = at-replicate n i a
 
   pub every-map : {B : Type 0} (t : B → Bool) (f : A → B) (xs : List A) → every t (map f xs) ≡ true → All (λ x. t (f x) ≡ true) xs
   every-map t f [] e = nil

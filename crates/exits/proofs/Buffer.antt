@@ -12,7 +12,7 @@ use Rattle.bitml.specs.Rows.{Row, rankOf}
 use Rattle.bitml.specs.Answers.{noRow}
 use Rattle.bitml.specs.Rule as rule
 use Rattle.bitml.specs.Rule.{make, stuck, rows, rowFor, reached, rankAt, verdict, liquid, frozen}
-use Rattle.bitml.proofs.Lists.{all-head, all-of, keep-imp, up-mem, map-cong}
+use Rattle.bitml.proofs.Lists.{all-head, all-of, keep-imp, up-mem, map-cong, at-replicate}
 use Rattle.bitml.proofs.Counting.{keep-cong, keep-append, up-split, up-one, up-end}
 use Rattle.tables.specs.Entries.{Entries}
 use Rattle.tables.specs.SheetOf.{sheetOf}
@@ -158,21 +158,16 @@ put-step M R B xs ys L i j j′ r h = go (eqb (getD M i 0) 0) refl
 
 -- ---- what is made
 
-zeros : (n m : ℕ) → _≡_ {A = ℕ} (getD (replicate n 0) m 0) 0
-zeros zero m = refl
-zeros (suc n) zero = refl
-zeros (suc n) (suc m) = zeros n m
-
 pub no-marks : (length (replicate {A = ℕ} 512 0) ≡ 512) × ((m : ℕ) → _≡_ {A = ℕ} (getD (replicate 512 0) m 0) 0)
-no-marks = (length-replicate {A = ℕ} 512 0, zeros 512)
+no-marks = (length-replicate {A = ℕ} 512 0, λ m. at-replicate 512 m 0)
 
 pub marks-none : (K : ℕ) (E : Entries) → Marked K E (replicate 32 0) (replicate 32 0) 0
 marks-none K E = record {
   long = length-replicate {A = ℕ} 32 0;
   wide = length-replicate {A = ℕ} 32 0;
-  count = flags-none (replicate 32 0) (zeros 32);
-  sound = λ m h. absurd (omega (arith, zeros 32 m));
-  queued = λ m h. absurd (omega (arith, zeros 32 m));
+  count = flags-none (replicate 32 0) (λ m. at-replicate 32 m 0);
+  sound = λ m h. absurd (omega (arith, at-replicate {A = ℕ} 32 m 0));
+  queued = λ m h. absurd (omega (arith, at-replicate {A = ℕ} 32 m 0));
   back = λ i h. absurd (omega arith);
 }
 

@@ -4,7 +4,7 @@ use mathlib.Core.Bool.{true}
 use mathlib.Core.Path.{_≡_, refl, sym, ap, ap₂, _∙_, subst}
 use mathlib.Core.List.{List, [], _∷_, map}
 use native.Mathlib.Omega.{arith}
-use lib.ListN.{getD, length, replicate, length-replicate}
+use lib.ListN.{getD, length, replicate, length-replicate, getD-replicate}
 use lib.Seq.{ext-getD}
 use Rattle.bitml.specs.Lists.{sum}
 use Rattle.bitml.specs.Sheet.{defAt}
@@ -12,6 +12,7 @@ use Rattle.bitml.specs.Ledger.{Commitment, commit, stipulated}
 use Rattle.bitml.specs.Ledger.{Ledger as Plain}
 use Rattle.bitml.specs.Limits.{depositsTaken}
 use Rattle.bitml.specs.Balance.{locked}
+use Rattle.bitml.proofs.Lists.{at-replicate}
 use Rattle.tables.specs.Entries.{held, people, firstOf}
 use Rattle.tables.specs.SheetOf.{defEntryAt, sheetOf, sheetIn}
 use Rattle.tables.proofs.SheetOf.{root-is, deposits-are}
@@ -46,20 +47,10 @@ opening root total n =
       paid = replicate 16 0;
     }
 
-zeros-at : (n k : ℕ) → _≡_ {A = ℕ} (getD (replicate n 0) k 0) 0
-zeros-at zero k = refl
-zeros-at (suc n) zero = refl
-zeros-at (suc n) (suc k) = zeros-at n k
-
-same-at : (n a k : ℕ) → k < n → getD (replicate n a) k 0 ≡ a
-same-at zero a k h = absurd (omega arith)
-same-at (suc n) a zero h = refl
-same-at (suc n) a (suc k) h = same-at n a k (omega arith)
-
 zeros-are : (n : ℕ) (f : ℕ → ℕ) → ((i : ℕ) → f i ≡ 0) → firstOf f n ≡ replicate n 0
 zeros-are n f h =
     ext-getD 0 (firstOf f n) (replicate n 0) (firstOf-length f n ∙ sym (length-replicate {A = ℕ} n 0))
-    (λ i l. firstOf-getD f n i 0 (subst (λ m. i < m) (firstOf-length f n) l) ∙ h i ∙ sym (zeros-at n i))
+    (λ i l. firstOf-getD f n i 0 (subst (λ m. i < m) (firstOf-length f n) l) ∙ h i ∙ sym (at-replicate n i 0))
 
 sum-zeros : (n : ℕ) → sum (replicate n 0) ≡ 0
 sum-zeros zero = refl
@@ -92,9 +83,9 @@ module _ (t vs : List ℕ) (ok : Ready t) (ev : length vs ≡ defEntryAt (held t
     unfolding view stipulated firstOf sheetOf
     begin-view = λ k. record {
       time = 0;
-      contracts = contract-eq {i = 0} {i′ = 0} {a = true} {a′ = true} (sym (root-is (people t) (held t) 0 (ok .promises .limits .defs .0))) (sym deposits-sum) refl (unsigned (replicate 4096 0) 0 (λ k h. zeros-at 4096 k)) refl k ∷ [];
+      contracts = contract-eq {i = 0} {i′ = 0} {a = true} {a′ = true} (sym (root-is (people t) (held t) 0 (ok .promises .limits .defs .0))) (sym deposits-sum) refl (unsigned (replicate 4096 0) 0 (λ k h. at-replicate 4096 k 0)) refl k ∷ [];
       sets = set-is k ∷ [];
-      paid = zeros-are (people t) (λ p. getD (replicate 16 0) p 0) (λ p. zeros-at 16 p) k;
+      paid = zeros-are (people t) (λ p. getD (replicate 16 0) p 0) (λ p. at-replicate 16 p 0) k;
     }
 
     money : locked (view (people t) R .contracts) + sum (view (people t) R .paid) ≡ total
@@ -116,12 +107,12 @@ module _ (t vs : List ℕ) (ok : Ready t) (ev : length vs ≡ defEntryAt (held t
         taken = deposits-most (people t) (held t) 0 (ok .promises) (ok .promises .limits .defs .0);
         deposits = taken-is;
         total = money;
-        node = λ c h. subst (λ x. x < length (held t .nodes)) (sym (same-at 256 root c (omega arith))) (ok .promises .def 0 (ok .promises .limits .defs .0) .root);
-        set = λ c h. (let z = zeros-at 256 c in omega arith);
-        count = λ i h. (let z = same-at 32 (length vs) i (omega arith) in omega (arith, ok .promises .def 0 (ok .promises .limits .defs .0) .secrets));
-        value = s .small (λ k. (let z = zeros-at 256 k in omega arith));
-        blank = s .blank (λ k e. zeros-at 256 k);
-        fresh = λ k h. zeros-at 4096 k;
+        node = λ c h. subst (λ x. x < length (held t .nodes)) (sym (getD-replicate 256 c root 0 (omega arith))) (ok .promises .def 0 (ok .promises .limits .defs .0) .root);
+        set = λ c h. (let z = at-replicate {A = ℕ} 256 c 0 in omega arith);
+        count = λ i h. (let z = getD-replicate 32 i (length vs) 0 (omega arith) in omega (arith, ok .promises .def 0 (ok .promises .limits .defs .0) .secrets));
+        value = s .small (λ k. (let z = at-replicate {A = ℕ} 256 k 0 in omega arith));
+        blank = s .blank (λ k e. at-replicate 256 k 0);
+        fresh = λ k h. at-replicate 4096 k 0;
         lengths = record {
           nodes = length-replicate 256 root;
           balances = length-replicate 256 total;

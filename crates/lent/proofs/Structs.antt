@@ -8,7 +8,7 @@ use lib.ListN.{length, take, drop, getD, set, replicate, length-append, length-d
 use lib.Seq.{length-take-le, take-suc, take-length, drop-cons, drop-length, set-at, ext-getD}
 use Rattle.bitml.specs.Lists.{below}
 use Rattle.bitml.specs.Rows as bitml
-use Rattle.bitml.proofs.Lists.{getD-up, length-up}
+use Rattle.bitml.proofs.Lists.{at-replicate, getD-up, length-up}
 use Rattle.exits.specs.Made.{flat, filled}
 use Rattle.lent.specs.declared.Row.{Row}
 use Rattle.lent.specs.Structs.{noRow, structOf, structAt, structs}
@@ -67,11 +67,6 @@ module _ (xs : List ℕ) (ys : List Row) (i : ℕ) where
 
 -- ---- rows, and zero past them
 
-getD-same : {A : Type 0} (n i : ℕ) (a : A) → getD (replicate n a) i a ≡ a
-getD-same zero i a = refl
-getD-same (suc n) zero a = refl
-getD-same (suc n) (suc i) a = getD-same n i a
-
 shift : (a b c : ℕ) (xs : List ℕ) (i : ℕ) → structAt (a ∷ b ∷ c ∷ xs) (suc i) ≡ structAt xs i
 unfolding structAt
 shift a b c xs i =
@@ -82,11 +77,11 @@ shift a b c xs i =
 
 zeros-at : (k i : ℕ) → structAt (replicate k 0) i ≡ noRow
 unfolding structAt
-zeros-at k i = rw (getD-same {A = ℕ} k (3 * i) 0, getD-same {A = ℕ} k (3 * i + 1) 0, getD-same {A = ℕ} k (3 * i + 2) 0)
+zeros-at k i = rw (at-replicate {A = ℕ} k (3 * i) 0, at-replicate {A = ℕ} k (3 * i + 1) 0, at-replicate {A = ℕ} k (3 * i + 2) 0)
 
 flat-at : (R : List bitml.Row) (k m i : ℕ) → structAt (flat R ++ replicate k 0) i ≡ getD (map structOf R ++ replicate m noRow) i noRow
 unfolding flat structOf structAt
-flat-at [] k m i = zeros-at k i ∙ sym (getD-same m i noRow)
+flat-at [] k m i = zeros-at k i ∙ sym (at-replicate m i noRow)
 flat-at (r ∷ R) k m zero = refl
 flat-at (r ∷ R) k m (suc i) = shift (r .node) (r .branch) (r .rank) (flat R ++ replicate k 0) i ∙ flat-at R k m i
 

@@ -1,6 +1,6 @@
 -- The rows of a buffer one by one, and the array of their ranks. Assumes nothing.
 use mathlib.Core.Path.{_≡_, refl, sym, ap, ap₂, _∙_}
-use Prim.Native.Nat.{ℕ, zero, suc, _+_, _≤_, _<_}
+use Prim.Native.Nat.{ℕ, suc, _+_, _≤_, _<_}
 use native.Mathlib.Omega.{arith}
 use mathlib.Core.Bool.{Bool, true, false, not, cond}
 use mathlib.Core.List.{List, [], _∷_, _++_}
@@ -10,7 +10,7 @@ use lib.Dec.{eqb}
 use borrow.Author.Tests.{eq-eqb, ne-eqb, eqb-false}
 use Rattle.bitml.specs.Lists.{_or_, All, nil, cons}
 use Rattle.bitml.specs.Rows.{Row, has, rankOf, repeated}
-use Rattle.bitml.proofs.Lists.{or-no-l, or-no-r, all-head, all-tail, all-append}
+use Rattle.bitml.proofs.Lists.{or-no-l, or-no-r, all-head, all-tail, all-append, at-replicate}
 use Rattle.bitml.proofs.Sorting.{rank-swap}
 use Rattle.bitml.proofs.Counting.{at-store}
 use Rattle.tables.specs.Entries.{held}
@@ -77,13 +77,8 @@ pub known-has : (R : List Row) (A : List ℕ) → Known R A → (m : ℕ) → ha
 unfolding hasBy
 known-has R A kn m = has-rank R (kn .some) m ∙ ap (λ k. not (eqb k 0)) (sym (kn .rank m))
 
-zeros : (n m : ℕ) → _≡_ {A = ℕ} (getD (replicate n 0) m 0) 0
-zeros zero m = refl
-zeros (suc n) zero = refl
-zeros (suc n) (suc m) = zeros n m
-
 pub known-none : Known [] (replicate 512 0)
-known-none = record { long = length-replicate {A = ℕ} 512 0; rank = λ m. zeros 512 m; some = nil; most = λ m. omega (arith, zeros 512 m) }
+known-none = record { long = length-replicate {A = ℕ} 512 0; rank = λ m. at-replicate 512 m 0; some = nil; most = λ m. omega (arith, at-replicate {A = ℕ} 512 m 0) }
 
 -- ---- repeated nodes
 

@@ -1,6 +1,6 @@
 -- An index finds the entries that belong together; making one. Assumes nothing.
 use mathlib.Core.Path.{_≡_, refl, sym, ap, ap₂, _∙_, subst}
-use Prim.Native.Nat.{ℕ, suc, _+_, _-_, _≤_, _<_}
+use Prim.Native.Nat.{ℕ, _+_, _-_, _≤_, _<_}
 use native.Mathlib.Omega.{arith}
 use mathlib.Core.Bool.{Bool}
 use mathlib.Core.List.{List, _++_}
@@ -12,7 +12,7 @@ use Rattle.bitml.specs.Lists.{below}
 use Rattle.bitml.proofs.Lists.{keep-all, keep-imp, up-mem, mem-keep, mem-up}
 use Rattle.bucket.specs.Bucket.{keyAt, Keys, Buckets, bucketOf}
 use Rattle.bucket.proofs.Laws.{buckets-frame}
-use Rattle.bucket.proofs.Find.{bucket-size, bucket-at, bucket-room}
+use Rattle.bucket.proofs.Find.{bucket-rise, bucket-size, bucket-behind, bucket-room}
 use Rattle.tables.specs.Entries.{Entries, held, people}
 use Rattle.tables.specs.SheetOf.{nodeEntryAt, branchEntryAt, branchNumbers, branchCount, branchNumber, partNumbers, partCount, partNumber}
 use Rattle.tables.proofs.SheetOf.{all-in}
@@ -23,9 +23,7 @@ use Rattle.sheets.specs.Ready.{Ready, Indexed, namers, Named}
 module _ (E : Entries) (x : List ℕ) (w : Indexed E x) where
   pub branch-at : (n i : ℕ) → n < 512 → i < branchCount E n → branchNumber E n i ≡ getD x (513 + getD x n 0 + i) 0
   unfolding branchCount branchNumber branchNumbers bucketOf
-  branch-at n i h l =
-      bucket-at _ _ _ _ _ (w .branches) n i h l ∙ getD-drop 513 x (getD x n 0 + i) 0
-      ∙ ap (λ j. getD x j 0) (let z : 513 + (getD x n 0 + i) ≡ 513 + getD x n 0 + i = omega arith in z)
+  branch-at n i h l = bucket-behind _ _ _ _ x 513 (w .branches) n i h l
 
   pub branch-room : (n i : ℕ) → n < 512 → i < branchCount E n → getD x n 0 + i < length (E .branches)
   unfolding branchCount branchNumbers bucketOf
@@ -39,16 +37,11 @@ module _ (E : Entries) (x : List ℕ) (w : Indexed E x) where
   parts-at b h = bucket-size _ _ _ _ _ (w .parts) b h ∙ ap₂ (λ p q. p - q) (part-start (b + 1)) (part-start b)
 
   pub parts-rise : (b : ℕ) → b < 1025 → getD x (1537 + b) 0 ≤ getD x (1537 + (b + 1)) 0
-  parts-rise b h =
-      let z : suc b ≡ b + 1 = omega arith in
-      let y = subst (λ k. getD (drop 1537 x) b 0 ≤ getD (drop 1537 x) k 0) z (w .parts .rises b h) in
-      omega (arith, part-start b, part-start (b + 1))
+  parts-rise b h = omega (arith, part-start b, part-start (b + 1), bucket-rise _ _ _ _ _ (w .parts) b h)
 
   pub part-at : (b i : ℕ) → b < 1025 → i < partCount E b → partNumber E b i ≡ getD x (2563 + getD x (1537 + b) 0 + i) 0
   unfolding partCount partNumber partNumbers bucketOf
-  part-at b i h l =
-      bucket-at _ _ _ _ _ (w .parts) b i h l ∙ getD-drop 2563 x (getD (drop 1537 x) b 0 + i) 0
-      ∙ ap (λ j. getD x j 0) (let z : 2563 + (getD (drop 1537 x) b 0 + i) ≡ 2563 + getD x (1537 + b) 0 + i = omega (arith, part-start b) in z)
+  part-at b i h l = bucket-behind _ _ _ _ x 2563 (w .parts) b i h l ∙ ap (λ k. getD x (2563 + k + i) 0) (part-start b)
 
   pub part-room : (b i : ℕ) → b < 1025 → i < partCount E b → getD x (1537 + b) 0 + i < length (E .nodes)
   unfolding partCount partNumbers bucketOf
@@ -62,13 +55,11 @@ module _ (E : Entries) (y : List ℕ) (w : Named E y) where
   namers-at a h = bucket-size _ _ _ _ _ (w .branches) a h
 
   pub namers-rise : (a : ℕ) → a < 512 → getD y a 0 ≤ getD y (a + 1) 0
-  namers-rise a h = let z : suc a ≡ a + 1 = omega arith in subst (λ k. getD y a 0 ≤ getD y k 0) z (w .branches .rises a h)
+  namers-rise a h = bucket-rise _ _ _ _ _ (w .branches) a h
 
   pub namer-at : (a i : ℕ) → a < 512 → i < length (namers E a) → getD (namers E a) i 0 ≡ getD y (513 + getD y a 0 + i) 0
   unfolding namers
-  namer-at a i h l =
-      bucket-at _ _ _ _ _ (w .branches) a i h l ∙ getD-drop 513 y (getD y a 0 + i) 0
-      ∙ ap (λ j. getD y j 0) (let z : 513 + (getD y a 0 + i) ≡ 513 + getD y a 0 + i = omega arith in z)
+  namer-at a i h l = bucket-behind _ _ _ _ y 513 (w .branches) a i h l
 
   pub namer-room : (a i : ℕ) → a < 512 → i < length (namers E a) → getD y a 0 + i < length (E .branches)
   unfolding namers

@@ -13,7 +13,7 @@ use borrow.Author.Tests.{eq-eqb, ne-eqb, le-leb, lt-leb, not-true, not-false}
 use Rattle.bitml.specs.Lists.{_&_, _⇒_, ask, every, upFrom}
 use Rattle.bitml.proofs.Lists.{and-false, and-true, ask-no, ask-yes}
 use Rattle.bitml.proofs.Counting.{up-one, up-end}
-use Rattle.sheets.proofs.Bits.{bit, bit-suc, bit-zero, two}
+use Rattle.sheets.proofs.Bits.{bit, bit-suc, bit-zero, none-zero, two}
 use Rattle.tables.specs.Entries.{Entries}
 use Rattle.tables.specs.SheetOf.{branchEntryAt}
 use Rattle.duties.specs.Duties.{covers, notYet}
@@ -82,6 +82,14 @@ module _ (K x y : ℕ) where
   pub cover-end : (i : ℕ) → K ≤ i → leftover K x y i ≡ true
   unfolding leftover
   cover-end i h = ap (every (λ p. eqb (x / 2 ^ p % 2) 1 ⇒ eqb (y / 2 ^ p % 2) 1)) (up-end i K h)
+
+  -- nothing is missing
+  pub cover-all : x - bitAnd x y ≡ 0 → true ≡ covers K x y
+  cover-all e = sym (sym cover-start ∙ go K 0 (omega arith))
+    where
+      go : (n i : ℕ) → K ≡ i + n → leftover K x y i ≡ true
+      go zero i h = cover-end i (omega arith)
+      go (suc n) i h = cover-good i (omega arith) (ap (λ z. eqb (bit z i) 1) e ∙ ne-eqb (bit 0 i) 1 (λ q. let z = none-zero i in omega arith)) ∙ go n (i + 1) (omega arith)
 
 -- ---- what holds an entry back
 

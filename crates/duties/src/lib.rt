@@ -37,6 +37,9 @@ pub fn all_signed(people: usize, signers: usize, mask: usize) -> bool
 {
     // those who have not
     let missing = signers - (signers & mask);
+    if missing == 0 {
+        return true;
+    }
     let mut i = 0;
     while i < people {
         if signs(missing, i) {
@@ -67,14 +70,14 @@ pub fn held_back(t: &[usize], q: usize, time: usize, mask: usize) -> usize
 // The secrets that are listed from first on are told in the set whose known secrets start at base.
 pub fn all_told(
     t: &[usize],
-    state: &[u8; 256],
+    state: &[usize],
     base: usize,
     known: usize,
     first: usize,
     count: usize,
 ) -> bool
     requires { ⌜ Ready (now t) ⌝ }
-    requires { ⌜ (base + known ≤ 256) × (first + count ≤ length (held (now t) .listed)) ⌝ }
+    requires { ⌜ (base + known ≤ length (now state)) × (first + count ≤ length (held (now t) .listed)) ⌝ }
     ensures { λ r. ⌜ r ≡ every (toldAt (now (state .entry)) base known) (map (listedAt (held (now (t .entry)))) (upFrom first count)) ⌝ }
 {
     let mut i = 0;
@@ -136,7 +139,7 @@ pub fn deposits(t: &[usize], d: usize) -> usize
 }
 
 // A value as it is handed over, 0 for `x` and else one more than the number: its state, and its number.
-pub fn state_of(v: usize) -> u8
+pub fn state_of(v: usize) -> usize
     ensures { λ r. ⌜ r ≡ stateOf v ⌝ }
 {
     if v == 0 {

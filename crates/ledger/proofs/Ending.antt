@@ -1,6 +1,6 @@
 -- The line that ends a play, by the ledger's fields. Assumes nothing.
 use Prim.Native.Nat.{ℕ, _-_, _<_}
-use mathlib.Core.Bool.{Bool, true, false, cond}
+use mathlib.Core.Bool.{true, false, cond}
 use mathlib.Core.Path.{_≡_, sym, ap, _∙_, subst}
 use mathlib.Core.List.{List, map}
 use native.Mathlib.Omega.{arith}
@@ -14,28 +14,28 @@ use Rattle.tables.specs.Entries.{firstOf}
 use Rattle.tables.proofs.SheetOf.{map-map}
 use Rattle.tables.proofs.Laws.{firstOf-length, firstOf-getD}
 use Rattle.duties.proofs.Sums.{sumFrom}
-use Rattle.ledger.specs.declared.Ledger.{Ledger}
-use Rattle.ledger.specs.View.{view, contractOf, liveOf}
+use Rattle.ledger.specs.Book.{Book}
+use Rattle.ledger.specs.View.{aliveAt, view, contractOf, liveOf}
 
 -- ---- counting
 
 -- 1 for a live contract
-abbrev pub lives : List Bool → ℕ → ℕ
-lives alive c = cond (getD alive c false) 1 0
+abbrev pub lives : List ℕ → ℕ → ℕ
+lives alive c = cond (aliveAt alive c) 1 0
 
-pub lives-all : (alive : List Bool) (n : ℕ) → sumFrom (lives alive) 0 n ≡ liveOf alive n
+pub lives-all : (alive : List ℕ) (n : ℕ) → sumFrom (lives alive) 0 n ≡ liveOf alive n
 unfolding sumFrom liveOf
 lives-all alive n = ap (λ k. sum (map (lives alive) (upFrom 0 k))) (let z : n - 0 ≡ n = omega arith in z)
 
-pub lives-yes : (alive : List Bool) (c : ℕ) → getD alive c false ≡ true → lives alive c ≡ 1
+pub lives-yes : (alive : List ℕ) (c : ℕ) → aliveAt alive c ≡ true → lives alive c ≡ 1
 lives-yes alive c e = ap (λ b. cond b 1 0) e
 
-pub lives-no : (alive : List Bool) (c : ℕ) → getD alive c false ≡ false → lives alive c ≡ 0
+pub lives-no : (alive : List ℕ) (c : ℕ) → aliveAt alive c ≡ false → lives alive c ≡ 0
 lives-no alive c e = ap (λ b. cond b 1 0) e
 
 -- ---- "time, live contracts, paid by participant"
 
-pub end-is : (K : ℕ) (l : Ledger) → endOf (view K l) ≡ endLine (l .time) (liveOf (l .alive) (l .made)) (firstOf (λ p. getD (l .paid) p 0) K)
+pub end-is : (K : ℕ) (l : Book) → endOf (view K l) ≡ endLine (l .time) (liveOf (l .alive) (l .made)) (firstOf (λ p. getD (l .paid) p 0) K)
 unfolding endOf view liveOf
 end-is K l =
     ap (λ n. endLine (l .time) n (firstOf (λ p. getD (l .paid) p 0) K))

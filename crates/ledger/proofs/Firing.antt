@@ -20,13 +20,13 @@ use Rattle.tables.specs.SheetOf.{branchEntryAt, branchCount, branchNumber, acti
 use Rattle.tables.proofs.Laws.{firstOf-getD, firstOf-set}
 use Rattle.sheets.specs.Ready.{Ready}
 use Rattle.duties.specs.Duties.{covers, notYet}
-use Rattle.ledger.specs.declared.Ledger.{Ledger}
-use Rattle.ledger.specs.View.{view, contractOf, setOf, signedBy}
+use Rattle.ledger.specs.Book.{Book}
+use Rattle.ledger.specs.View.{aliveAt, view, contractOf, setOf, signedBy}
 use Rattle.ledger.specs.Fit.{Fit}
 use Rattle.ledger.specs.Does.{Does, withAnswer}
 use Rattle.ledger.specs.Steps.{Enabled}
 use Rattle.ledger.proofs.Updates.{withPaid, dying}
-use Rattle.ledger.proofs.Looking.{refused, refused-by, takes, total-same, deposits-same, live-unknown, live-dead, live-none, live-is, branch-is, contract-of, contracts-are, entry-small}
+use Rattle.ledger.proofs.Looking.{refused, refused-by, takes, total-same, deposits-same, live-is, branch-is, contract-of, contracts-are, entry-small}
 
 -- what comes before the last test
 pub late : (a b : Bool) (n rest : ℕ) → ask a 15 (ask b 16 0) ≡ n → (n ≡ 0 → ⊥) → ask a 15 (ask b 16 rest) ≡ n
@@ -41,21 +41,13 @@ timely true true rest e = refl
 timely true false rest e = absurd (omega arith)
 timely false b rest e = absurd (omega arith)
 
-module _ (t : List ℕ) (l : Ledger) (c b : ℕ) (ok : Ready t) (f : Fit t l) where
-  pub fire-unknown : l .made ≤ c → Does t l (fire c b) (withAnswer l 14)
+module _ (t : List ℕ) (l : Book) (c b : ℕ) (ok : Ready t) (f : Fit t l) where
+  pub fire-absent : live (sheetIn t) (view (people t) l) c b ≡ false → Does t l (fire c b) (withAnswer l 14)
   unfolding refusal
-  fire-unknown h = refused t l (fire c b) 13 f (ask-no _ _ _ (and-false _ _ (live-unknown t l c b h)))
-
-  pub fire-dead : c < l .made → getD (l .alive) c false ≡ false → Does t l (fire c b) (withAnswer l 14)
-  unfolding refusal
-  fire-dead h e = refused t l (fire c b) 13 f (ask-no _ _ _ (and-false _ _ (live-dead t l c b h e)))
+  fire-absent z = refused t l (fire c b) 13 f (ask-no _ _ _ (and-false _ _ z))
 
   module _ (h : c < l .made) where
-    pub fire-none : branchCount (held t) (getD (l .node) c 0) ≤ b → Does t l (fire c b) (withAnswer l 14)
-    unfolding refusal
-    fire-none k = refused t l (fire c b) 13 f (ask-no _ _ _ (and-false _ _ (live-none t l f c b h k)))
-
-    module _ (e : getD (l .alive) c false ≡ true) (k : b < branchCount (held t) (getD (l .node) c 0)) (q : ℕ) (eq : q ≡ branchNumber (held t) (getD (l .node) c 0) b) where
+    module _ (e : aliveAt (l .alive) c ≡ true) (k : b < branchCount (held t) (getD (l .node) c 0)) (q : ℕ) (eq : q ≡ branchNumber (held t) (getD (l .node) c 0) b) where
       abbrev as-plain : Plain
       as-plain = view (people t) l
 
@@ -117,17 +109,17 @@ module _ (t : List ℕ) (l : Ledger) (c b : ℕ) (ok : Ready t) (f : Fit t l) wh
 
 -- ---- the contracts after a firing
 
-module _ (t : List ℕ) (l : Ledger) (f : Fit t l) where
+module _ (t : List ℕ) (l : Book) (f : Fit t l) where
   pub dying-are : (c : ℕ) → c < l .made → firstOf (contractOf (dying l c)) (l .made) ≡ set (view (people t) l .contracts) c (dead (contractAt (view (people t) l) c))
   unfolding view
   dying-are c h = firstOf-set (contractOf l) (contractOf (dying l c)) (l .made) c _ noContract h
       (ap (λ (a : Bool). record { node = getD (l .node) c 0; balance = getD (l .balance) c 0; set = getD (l .set) c 0; signed = signedBy (l .signed) c; alive = a })
-      (getD-set-same (l .alive) c false false (omega (arith, f .made, f .lengths .alives)))
+      (ap (λ x. eqb x 1) (getD-set-same (l .alive) c 0 0 (omega (arith, f .made, f .lengths .alives))))
       ∙ ap dead (sym (contract-of t l c h)))
       (λ i hi n. ap (λ (a : Bool). record { node = getD (l .node) i 0; balance = getD (l .balance) i 0; set = getD (l .set) i 0; signed = signedBy (l .signed) i; alive = a })
-      (getD-set-other (l .alive) c i false false n))
+      (ap (λ x. eqb x 1) (getD-set-other (l .alive) c i 0 0 n)))
 
-  pub balance-in : (c : ℕ) → c < l .made → getD (l .alive) c false ≡ true → getD (l .balance) c 0 ≤ locked (view (people t) l .contracts)
+  pub balance-in : (c : ℕ) → c < l .made → aliveAt (l .alive) c ≡ true → getD (l .balance) c 0 ≤ locked (view (people t) l .contracts)
   balance-in c h e =
       let n = dead-locked (view (people t) l) c (ap (λ k. k .alive) (contract-of t l c h) ∙ e) in
       let b = ap (λ k. k .balance) (contract-of t l c h) in
@@ -135,7 +127,7 @@ module _ (t : List ℕ) (l : Ledger) (f : Fit t l) where
 
 -- ---- withdraw
 
-module _ (t : List ℕ) (l : Ledger) (c b q : ℕ) (ok : Ready t) (f : Fit t l) (r : Enabled t l c b q) where
+module _ (t : List ℕ) (l : Book) (c b q : ℕ) (ok : Ready t) (f : Fit t l) (r : Enabled t l c b q) where
   abbrev was : Plain
   was = view (people t) l
 
@@ -154,8 +146,8 @@ module _ (t : List ℕ) (l : Ledger) (c b q : ℕ) (ok : Ready t) (f : Fit t l) 
       ∙ ap (λ a. ask (revealed (commitmentAt was (contractAt was c .set)) a) 17 0) (kind-action k e)
 
   module _ (w : branchEntryAt (held t) q .kind ≡ 0) where
-    abbrev paid-out : Ledger
-    paid-out = withPaid l (set (l .alive) c false) (set (l .paid) (branchEntryAt (held t) q .arg) (getD (l .paid) (branchEntryAt (held t) q .arg) 0 + getD (l .balance) c 0))
+    abbrev paid-out : Book
+    paid-out = withPaid l (set (l .alive) c 0) (set (l .paid) (branchEntryAt (held t) q .arg) (getD (l .paid) (branchEntryAt (held t) q .arg) 0 + getD (l .balance) c 0))
 
     payee : branchEntryAt (held t) q .arg < people t
     payee = ok .promises .branch q entry-below .withdraw w .payee
@@ -190,7 +182,7 @@ module _ (t : List ℕ) (l : Ledger) (c b q : ℕ) (ok : Ready t) (f : Fit t l) 
         (λ i hi n. getD-set-other (l .paid) (branchEntryAt (held t) q .arg) i _ 0 n)
         ∙ ap (λ a. paying (was .paid) (contractAt was c .balance) a) (sym (kind-action 0 w)))
 
-    w-taken : Does t l (fire c b) (withPaid l (set (l .alive) c false) (set (l .paid) (branchEntryAt (held t) q .arg) (getD (l .paid) (branchEntryAt (held t) q .arg) 0 + getD (l .balance) c 0)))
+    w-taken : Does t l (fire c b) (withPaid l (set (l .alive) c 0) (set (l .paid) (branchEntryAt (held t) q .arg) (getD (l .paid) (branchEntryAt (held t) q .arg) 0 + getD (l .balance) c 0)))
     w-taken = takes t l (fire c b) paid-out w-asks w-within refl w-view
         (record {
           made = f .made;
@@ -203,6 +195,7 @@ module _ (t : List ℕ) (l : Ledger) (c b q : ℕ) (ok : Ready t) (f : Fit t l) 
           set = f .set;
           count = f .count;
           value = f .value;
+          masks = f .masks;
           blank = f .blank;
           fresh = f .fresh;
           lengths = record {
@@ -219,10 +212,10 @@ module _ (t : List ℕ) (l : Ledger) (c b q : ℕ) (ok : Ready t) (f : Fit t l) 
           };
         })
 
-    pub w-taken-by : {p : ℕ} → p ≡ branchEntryAt (held t) q .arg → Does t l (fire c b) (withPaid l (set (l .alive) c false) (set (l .paid) p (getD (l .paid) p 0 + getD (l .balance) c 0)))
-    w-taken-by e = subst (λ p. Does t l (fire c b) (withPaid l (set (l .alive) c false) (set (l .paid) p (getD (l .paid) p 0 + getD (l .balance) c 0)))) (sym e) w-taken
+    pub w-taken-by : {p : ℕ} → p ≡ branchEntryAt (held t) q .arg → Does t l (fire c b) (withPaid l (set (l .alive) c 0) (set (l .paid) p (getD (l .paid) p 0 + getD (l .balance) c 0)))
+    w-taken-by e = subst (λ p. Does t l (fire c b) (withPaid l (set (l .alive) c 0) (set (l .paid) p (getD (l .paid) p 0 + getD (l .balance) c 0)))) (sym e) w-taken
 
 -- what the code read makes a branch enabled
-pub enabled-by : (t : List ℕ) (l : Ledger) (c b q : ℕ) {m : ℕ} → c < l .made → getD (l .alive) c false ≡ true → b < branchCount (held t) (getD (l .node) c 0)
+pub enabled-by : (t : List ℕ) (l : Book) (c b q : ℕ) {m : ℕ} → c < l .made → aliveAt (l .alive) c ≡ true → b < branchCount (held t) (getD (l .node) c 0)
     → q ≡ branchNumber (held t) (getD (l .node) c 0) b → m ≡ notYet (people t) (held t) q (l .time) (getD (l .signed) (c * 16 + b) 0) → m ≡ 0 → Enabled t l c b q
 enabled-by t l c b q h e k eq em z = record { here = h; lives = e; there = k; entry = eq; ready = sym em ∙ z }

@@ -1,6 +1,6 @@
-pub mod Widths
 pub mod Updates
 pub mod Looking
+pub mod Finding
 pub mod Waiting
 pub mod Signing
 pub mod Telling

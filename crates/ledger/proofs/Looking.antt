@@ -3,7 +3,8 @@ use Prim.Native.Nat.{ℕ, zero, suc, _+_, _≤_, _<_}
 use mathlib.Core.Bool.{Bool, true, false}
 use mathlib.Core.Path.{_≡_, refl, sym, ap, ap₂, _∙_, subst}
 use mathlib.Core.List.{List}
-use mathlib.Core.Logic.{_⊎_, inl, inr}
+use mathlib.Core.Logic.{_⊎_, inl, inr, by-cases}
+use native.Mathlib.Decide.{decLe}
 use native.Mathlib.Omega.{arith}
 use lib.ListN.{getD, length}
 use lib.Dec.{eqb}
@@ -21,10 +22,11 @@ use Rattle.tables.proofs.SheetOf.{count-of, branch-of, branch-small}
 use Rattle.tables.proofs.Laws.{firstOf-length, firstOf-getD, firstOf-past}
 use Rattle.sheets.specs.Ready.{Ready}
 use Rattle.duties.proofs.Payable.{payable}
-use Rattle.ledger.specs.declared.Ledger.{Ledger}
-use Rattle.ledger.specs.View.{view, contractOf, setOf, secretOf}
+use Rattle.ledger.specs.Book.{Book}
+use Rattle.ledger.specs.View.{aliveAt, view, contractOf, setOf, secretOf}
 use Rattle.ledger.specs.Fit.{Fit}
 use Rattle.ledger.specs.Does.{Does, withAnswer}
+use Rattle.ledger.specs.Steps.{Finds}
 
 pub same? : (a b : ℕ) → (a ≡ b) ⊎ (a ≡ b → ⊥)
 same? a b = go (eqb a b) refl
@@ -33,7 +35,7 @@ same? a b = go (eqb a b) refl
     go true e = inl (eqb-true a b e)
     go false e = inr (eqb-false a b e)
 
-module _ (t : List ℕ) (l : Ledger) where
+module _ (t : List ℕ) (l : Book) where
   fit-answer : (k : ℕ) → Fit t l → Fit t (withAnswer l k)
   unfolding view
   fit-answer k f =
@@ -48,6 +50,7 @@ module _ (t : List ℕ) (l : Ledger) where
         set = f .set;
         count = f .count;
         value = f .value;
+        masks = f .masks;
         blank = f .blank;
         fresh = f .fresh;
         lengths = f .lengths;
@@ -80,7 +83,7 @@ module _ (t : List ℕ) (l : Ledger) where
   unfolding limitedRefusal ask
   passed e f q w = refuses e 18 f (ap₂ orLimit q w)
 
-  pub takes : (e : Event) (m : Ledger) → refusal (sheetIn t) (view (people t) l) e ≡ 0 → within (sheetIn t) (view (people t) l) e ≡ true
+  pub takes : (e : Event) (m : Book) → refusal (sheetIn t) (view (people t) l) e ≡ 0 → within (sheetIn t) (view (people t) l) e ≡ true
       → m .answer ≡ 0 → view (people t) m ≡ after (sheetIn t) (view (people t) l) e → Fit t m → Does t l e m
   unfolding limitedRefusal limitedStep ask
   takes e m q w a v f =
@@ -97,7 +100,7 @@ module _ (t : List ℕ) (l : Ledger) where
   paid-length = firstOf-length (λ p. getD (l .paid) p 0) (people t)
 
   -- no satoshi astray
-  module _ (e : Event) (m : Ledger) (ok : Ready t) (f : Fit t l) (q : refusal (sheetIn t) (view (people t) l) e ≡ 0) (v : view (people t) m ≡ after (sheetIn t) (view (people t) l) e) where
+  module _ (e : Event) (m : Book) (ok : Ready t) (f : Fit t l) (q : refusal (sheetIn t) (view (people t) l) e ≡ 0) (v : view (people t) m ≡ after (sheetIn t) (view (people t) l) e) where
     pub total-after : locked (view (people t) m .contracts) + sum (view (people t) m .paid) ≡ l .taken + bringing (sheetIn t) (view (people t) l) e
     total-after =
         ap (λ x. locked (x .contracts) + sum (x .paid)) v
@@ -153,10 +156,10 @@ module _ (t : List ℕ) (l : Ledger) where
   commitment-none i j h = ap (λ x. getD (x .secrets) j ill) (set-past i h)
 
   -- a live contract and its branch
-  pub live-unknown : (c b : ℕ) → l .made ≤ c → live (sheetIn t) (view (people t) l) c b ≡ false
+  live-unknown : (c b : ℕ) → l .made ≤ c → live (sheetIn t) (view (people t) l) c b ≡ false
   live-unknown c b h = and-false _ _ (ap (λ k. k .alive) (contract-past c h))
 
-  pub live-dead : (c b : ℕ) → c < l .made → getD (l .alive) c false ≡ false → live (sheetIn t) (view (people t) l) c b ≡ false
+  live-dead : (c b : ℕ) → c < l .made → aliveAt (l .alive) c ≡ false → live (sheetIn t) (view (people t) l) c b ≡ false
   live-dead c b h e = and-false _ _ (ap (λ k. k .alive) (contract-of c h) ∙ e)
 
   module _ (f : Fit t l) (c b : ℕ) (h : c < l .made) where
@@ -166,17 +169,28 @@ module _ (t : List ℕ) (l : Ledger) where
     branches : length (branchesAt (sheetIn t) (contractAt (view (people t) l) c .node)) ≡ branchCount (held t) (getD (l .node) c 0)
     branches = ap (λ n. length (branchesAt (sheetIn t) n)) node-is ∙ count-of (people t) (held t) (getD (l .node) c 0) (f .node c h)
 
-    pub live-none : branchCount (held t) (getD (l .node) c 0) ≤ b → live (sheetIn t) (view (people t) l) c b ≡ false
+    live-none : branchCount (held t) (getD (l .node) c 0) ≤ b → live (sheetIn t) (view (people t) l) c b ≡ false
     live-none k = and-no _ _ (le-ltb b _ (let z = branches in omega arith))
 
-    pub live-is : getD (l .alive) c false ≡ true → b < branchCount (held t) (getD (l .node) c 0) → live (sheetIn t) (view (people t) l) c b ≡ true
+    pub live-is : aliveAt (l .alive) c ≡ true → b < branchCount (held t) (getD (l .node) c 0) → live (sheetIn t) (view (people t) l) c b ≡ true
     live-is e k = and-i _ _ (ap (λ k. k .alive) (contract-of c h) ∙ e) (lt-ltb b _ (let z = branches in omega arith))
+
+    pub live-absent : {q : ℕ} → Finds t (l .made) (l .node) (l .alive) c b q → q ≡ 1024 → live (sheetIn t) (view (people t) l) c b ≡ false
+    live-absent x e = go (aliveAt (l .alive) c) refl
+      where
+        go : (a : Bool) → aliveAt (l .alive) c ≡ a → live (sheetIn t) (view (people t) l) c b ≡ false
+        go true z = live-none (x .none e h z)
+        go false z = live-dead c b h z
 
     pub branch-is : b < branchCount (held t) (getD (l .node) c 0) → theBranch (sheetIn t) (view (people t) l) c b ≡ branchOf (held t) (branchNumber (held t) (getD (l .node) c 0) b)
     branch-is k = ap (λ n. branchAt (sheetIn t) n b) node-is ∙ branch-of (people t) (held t) (getD (l .node) c 0) b (f .node c h) k
 
+-- no such contract or branch
+pub absent : (t : List ℕ) (l : Book) (c b : ℕ) {q : ℕ} → Fit t l → Finds t (l .made) (l .node) (l .alive) c b q → q ≡ 1024 → live (sheetIn t) (view (people t) l) c b ≡ false
+absent t l c b f x e = by-cases (decLe (l .made) c) (live-unknown t l c b) (λ h. live-absent t l f c b (omega arith) x e)
+
 -- the numbers that the code goes by
-pub few-branches : (t : List ℕ) (l : Ledger) (c : ℕ) → Ready t → Fit t l → c < l .made → branchCount (held t) (getD (l .node) c 0) ≤ 16
+pub few-branches : (t : List ℕ) (l : Book) (c : ℕ) → Ready t → Fit t l → c < l .made → branchCount (held t) (getD (l .node) c 0) ≤ 16
 few-branches t l c ok f h = ok .promises .node _ (f .node c h) .few
 
 pub entry-small : (t : List ℕ) (n b : ℕ) {q : ℕ} → q ≡ branchNumber (held t) n b → b < branchCount (held t) n → q < length (held t .branches)

@@ -1,6 +1,6 @@
 -- Making a contract: what it does to the list of contracts, and what it leaves in order. Assumes nothing.
 use Prim.Native.Nat.{ℕ, _+_, _*_, _/_, _%_, _^_, _≤_, _<_}
-use mathlib.Core.Bool.{Bool, true, false}
+use mathlib.Core.Bool.{Bool, false}
 use mathlib.Core.Path.{_≡_, refl, ap, _∙_, fun-ext}
 use mathlib.Core.List.{List, [], _∷_, _++_}
 use native.Mathlib.Omega.{arith}
@@ -14,7 +14,7 @@ use Rattle.bitml.proofs.Counting.{at-store}
 use Rattle.tables.specs.Entries.{held, firstOf}
 use Rattle.tables.proofs.Laws.{firstOf-more}
 use Rattle.sheets.proofs.Bits.{bit, none-zero}
-use Rattle.ledger.specs.declared.Ledger.{Ledger}
+use Rattle.ledger.specs.Book.{Book}
 use Rattle.ledger.specs.View.{contractOf, signedBy}
 use Rattle.ledger.specs.Fit.{Fit}
 use Rattle.ledger.specs.Steps.{Contracts}
@@ -26,7 +26,7 @@ contractBy n v i s a = record { node = n; balance = v; set = i; signed = s; aliv
 pub contract-eq : {n n′ v v′ i i′ : ℕ} {s s′ : ℕ → ℕ → Bool} {a a′ : Bool} → n ≡ n′ → v ≡ v′ → i ≡ i′ → s ≡ s′ → a ≡ a′ → contractBy n v i s a ≡ contractBy n′ v′ i′ s′ a′
 contract-eq e1 e2 e3 e4 e5 = λ k. record { node = e1 k; balance = e2 k; set = e3 k; signed = e4 k; alive = e5 k }
 
-pub dying-fits : {t : List ℕ} {l : Ledger} (c : ℕ) → Fit t l → Contracts t (dying l c)
+pub dying-fits : {t : List ℕ} {l : Book} (c : ℕ) → Fit t l → Contracts t (dying l c)
 dying-fits c f = record {
   made = f .made;
   node = f .node;
@@ -55,7 +55,7 @@ unfolding signedBy
 unsigned masks c f = fun-ext λ b. fun-ext λ p.
     and-no _ _ (ap (λ x. eqb (x / 2 ^ p % 2) 1) (f (c * 16 + b) (omega arith)) ∙ ne-eqb (bit 0 p) 1 (λ (e : bit 0 p ≡ 1). let z = none-zero p in omega arith))
 
-module _ (t : List ℕ) (l : Ledger) (n v i : ℕ) (h : Contracts t l) (room : l .made < 256) where
+module _ (t : List ℕ) (l : Book) (n v i : ℕ) (h : Contracts t l) (room : l .made < 256) where
   pub pushed-fits : n < length (held t .nodes) → i < l .sets → Contracts t (pushed l n v i)
   pushed-fits hn hi = record {
     made = omega arith;
@@ -80,6 +80,6 @@ module _ (t : List ℕ) (l : Ledger) (n v i : ℕ) (h : Contracts t l) (room : l
   pushed-are =
       firstOf-more (contractOf (pushed l n v i)) (contractOf l) (l .made) (newContract n v i)
       (λ j k. let ne : j ≡ l .made → ⊥ = λ e. omega arith in
-      contract-eq (getD-set-other (l .node) (l .made) j n 0 ne) (getD-set-other (l .balance) (l .made) j v 0 ne) (getD-set-other (l .set) (l .made) j i 0 ne) refl (getD-set-other (l .alive) (l .made) j true false ne))
+      contract-eq (getD-set-other (l .node) (l .made) j n 0 ne) (getD-set-other (l .balance) (l .made) j v 0 ne) (getD-set-other (l .set) (l .made) j i 0 ne) refl (ap (λ x. eqb x 1) (getD-set-other (l .alive) (l .made) j 1 0 ne)))
       (contract-eq (getD-set-same (l .node) (l .made) n 0 (omega (arith, h .lengths .nodes))) (getD-set-same (l .balance) (l .made) v 0 (omega (arith, h .lengths .balances))) (getD-set-same (l .set) (l .made) i 0 (omega (arith, h .lengths .set-numbers)))
-      (unsigned (l .signed) (l .made) (h .fresh)) (getD-set-same (l .alive) (l .made) true false (omega (arith, h .lengths .alives))))
+      (unsigned (l .signed) (l .made) (h .fresh)) (ap (λ x. eqb x 1) (getD-set-same (l .alive) (l .made) 1 0 (omega (arith, h .lengths .alives)))))

@@ -22,13 +22,13 @@ use Rattle.tables.proofs.Laws.{firstOf-agree, firstOf-more}
 use Rattle.sheets.specs.Ready.{Ready}
 use Rattle.duties.specs.Duties.{notYet, depositsOf, given, committed, stateOf}
 use Rattle.duties.proofs.Sums.{deposits-most}
-use Rattle.ledger.specs.declared.Ledger.{Ledger}
-use Rattle.ledger.specs.View.{view, setOf, secretOf, commitmentOf}
+use Rattle.ledger.specs.Book.{Book}
+use Rattle.ledger.specs.View.{aliveAt, view, setOf, secretOf, commitmentOf}
 use Rattle.ledger.specs.Fit.{Fit}
 use Rattle.ledger.specs.Does.{Does, withAnswer, renewal}
-use Rattle.ledger.specs.Steps.{Enabled, Contracts, room, withSecrets, Stores}
+use Rattle.ledger.specs.Steps.{Enabled, Contracts, room, withSecrets, Stored}
 use Rattle.ledger.proofs.Updates.{pushed, reset}
-use Rattle.ledger.proofs.Looking.{refused, refused-by, passed, takes, total-after, deposits-after, live-unknown, live-dead, live-none, live-is, contract-of, contracts-are, sets-are}
+use Rattle.ledger.proofs.Looking.{refused, refused-by, passed, takes, total-after, deposits-after, live-is, contract-of, contracts-are, sets-are}
 use Rattle.ledger.proofs.Making.{pushed-fits, pushed-are, put-all}
 use Rattle.ledger.proofs.Firing.{late, timely, renewal-entry, back-is, entry-below, kind-action, dying-are, balance-in}
 use Rattle.ledger.proofs.Storing.{commitments-are}
@@ -57,24 +57,16 @@ room-deposits made sets taken more h k l =
     go true e = le-leb (taken + more) 2100000000000000 (let w = leb-true more (2100000000000000 - taken) e in omega arith)
     go false e = lt-leb (taken + more) 2100000000000000 (let w = leb-false more (2100000000000000 - taken) e in omega arith)
 
-module _ (t : List ℕ) (l : Ledger) (c b : ℕ) (vs : List ℕ) (ok : Ready t) (f : Fit t l) where
+module _ (t : List ℕ) (l : Book) (c b : ℕ) (vs : List ℕ) (ok : Ready t) (f : Fit t l) where
   abbrev was : Plain
   was = view (people t) l
 
-  pub renew-unknown : l .made ≤ c → Does t l (renewal c b vs) (withAnswer l 14)
+  pub renew-absent : live (sheetIn t) was c b ≡ false → Does t l (renewal c b vs) (withAnswer l 14)
   unfolding refusal
-  renew-unknown h = refused t l (renewal c b vs) 13 f (ask-no _ _ _ (and-false _ _ (live-unknown t l c b h)))
-
-  pub renew-dead : c < l .made → getD (l .alive) c false ≡ false → Does t l (renewal c b vs) (withAnswer l 14)
-  unfolding refusal
-  renew-dead h e = refused t l (renewal c b vs) 13 f (ask-no _ _ _ (and-false _ _ (live-dead t l c b h e)))
+  renew-absent z = refused t l (renewal c b vs) 13 f (ask-no _ _ _ (and-false _ _ z))
 
   module _ (h : c < l .made) where
-    pub renew-none : branchCount (held t) (getD (l .node) c 0) ≤ b → Does t l (renewal c b vs) (withAnswer l 14)
-    unfolding refusal
-    renew-none k = refused t l (renewal c b vs) 13 f (ask-no _ _ _ (and-false _ _ (live-none t l f c b h k)))
-
-    module _ (e : getD (l .alive) c false ≡ true) (k : b < branchCount (held t) (getD (l .node) c 0)) (q : ℕ) (eq : q ≡ branchNumber (held t) (getD (l .node) c 0) b) where
+    module _ (e : aliveAt (l .alive) c ≡ true) (k : b < branchCount (held t) (getD (l .node) c 0)) (q : ℕ) (eq : q ≡ branchNumber (held t) (getD (l .node) c 0) b) where
       pub renew-other : (branchEntryAt (held t) q .kind ≡ 3 → ⊥) → Does t l (renewal c b vs) (withAnswer l 14)
       unfolding refusal
       renew-other x = refused t l (renewal c b vs) 13 f (ask-no _ _ _ (and-no _ _ (renewal-entry t l c b ok f h e k q eq ∙ ne-eqb _ 3 x)))
@@ -92,7 +84,7 @@ module _ (t : List ℕ) (l : Ledger) (c b : ℕ) (vs : List ℕ) (ok : Ready t) 
         unfolding refusal
         renew-rest x = ask-yes _ _ _ first ∙ timely _ _ _ (back-is t l c b ok f h e k q eq ∙ x)
 
-module _ (t : List ℕ) (l : Ledger) (c b : ℕ) (vs : List ℕ) (q : ℕ) (ok : Ready t) (f : Fit t l) (r : Enabled t l c b q) (w : branchEntryAt (held t) q .kind ≡ 3) where
+module _ (t : List ℕ) (l : Book) (c b : ℕ) (vs : List ℕ) (q : ℕ) (ok : Ready t) (f : Fit t l) (r : Enabled t l c b q) (w : branchEntryAt (held t) q .kind ≡ 3) where
   abbrev is : Plain
   is = view (people t) l
 
@@ -150,10 +142,10 @@ module _ (t : List ℕ) (l : Ledger) (c b : ℕ) (vs : List ℕ) (q : ℕ) (ok :
       ht : l .taken + more ≤ 2100000000000000
       ht = room-is (l .made) (l .sets) (l .taken) more hr .2
 
-      abbrev A : Ledger
+      abbrev A : Book
       A = reset l c D (length vs) more
 
-      abbrev B : Ledger
+      abbrev B : Book
       B = pushed A (defEntryAt (held t) D .root) (getD (l .balance) c 0 + more) (l .sets)
 
       reset-fits : Contracts t A
@@ -179,8 +171,8 @@ module _ (t : List ℕ) (l : Ledger) (c b : ℕ) (vs : List ℕ) (q : ℕ) (ok :
       new-fits : Contracts t B
       new-fits = pushed-fits t A (defEntryAt (held t) D .root) (getD (l .balance) c 0 + more) (l .sets) reset-fits hm (ok .promises .def D def-in .root) (omega arith)
 
-      module _ (st va : List ℕ) (s : Stores B (l .sets) vs (length vs) (withSecrets B st va)) where
-        abbrev R : Ledger
+      module _ (st va : List ℕ) (s : Stored (l .state) (l .value) (l .sets) vs (length vs) st va) where
+        abbrev R : Book
         R = withSecrets B st va
 
         set-new : setOf R (l .sets) ≡ record { definition = D; secrets = map commit (committed vs) }
@@ -223,6 +215,7 @@ module _ (t : List ℕ) (l : Ledger) (c b : ℕ) (vs : List ℕ) (q : ℕ) (ok :
               set = new-fits .set;
               count = put-all (λ x. x ≤ 8) (l .count) (l .sets) (length vs) (f .count) (omega (arith, ok .promises .def D def-in .secrets)) (omega (arith, hs, f .lengths .counts));
               value = s .small (f .value);
+              masks = f .masks;
               blank = s .blank (f .blank);
               fresh = new-fits .fresh;
               lengths = let h = new-fits .lengths in record {
@@ -238,9 +231,6 @@ module _ (t : List ℕ) (l : Ledger) (c b : ℕ) (vs : List ℕ) (q : ℕ) (ok :
                 paids = h .paids;
               };
             })
-
-      renew-taken : (m : Ledger) → Stores B (l .sets) vs (length vs) m → Does t l (renewal c b vs) m
-      renew-taken m s = subst (λ x. Does t l (renewal c b vs) x) (sym (s .grew)) (renew-does (m .state) (m .value) (subst (λ x. Stores B (l .sets) vs (length vs) x) (s .grew) s))
 
   -- over what the code read
   module _ {d n : ℕ} (ed : d ≡ branchEntryAt (held t) q .arg) (en : n ≡ defEntryAt (held t) d .secrets) where
@@ -266,11 +256,11 @@ module _ (t : List ℕ) (l : Ledger) (c b : ℕ) (vs : List ℕ) (q : ℕ) (ok :
           pub room-by : z ≡ true → (l .made < 256) × (l .sets < 32) × (l .taken + m ≤ 2100000000000000)
           room-by h = room-is (l .made) (l .sets) (l .taken) m (sym ez ∙ h)
 
-          pub renew-taken-by : {rt : ℕ} → rt ≡ defEntryAt (held t) d .root → z ≡ true → (x : Ledger)
-              → Stores (pushed (reset l c d n m) rt (getD (l .balance) c 0 + m) (l .sets)) (l .sets) vs (length vs) x → Does t l (renewal c b vs) x
-          renew-taken-by {rt} er h x s =
-              renew-taken (ev ∙ same-count) (sym same-room ∙ sym ez ∙ h) x
-              (subst (λ d′. Stores (pushed (reset l c d′ (length vs) (depositsOf (people t) (held t) (branchEntryAt (held t) q .arg))) (defEntryAt (held t) (branchEntryAt (held t) q .arg) .root) (getD (l .balance) c 0 + depositsOf (people t) (held t) (branchEntryAt (held t) q .arg)) (l .sets)) (l .sets) vs (length vs) x) ed
-              (subst (λ n′. Stores (pushed (reset l c d n′ (depositsOf (people t) (held t) (branchEntryAt (held t) q .arg))) (defEntryAt (held t) (branchEntryAt (held t) q .arg) .root) (getD (l .balance) c 0 + depositsOf (people t) (held t) (branchEntryAt (held t) q .arg)) (l .sets)) (l .sets) vs (length vs) x) (sym ev)
-              (subst (λ m′. Stores (pushed (reset l c d n m′) (defEntryAt (held t) (branchEntryAt (held t) q .arg) .root) (getD (l .balance) c 0 + m′) (l .sets)) (l .sets) vs (length vs) x) same-more
-              (subst (λ rt′. Stores (pushed (reset l c d n m) rt′ (getD (l .balance) c 0 + m) (l .sets)) (l .sets) vs (length vs) x) (er ∙ ap (λ d. defEntryAt (held t) d .root) ed) s))))
+          pub renew-taken-by : {rt : ℕ} → rt ≡ defEntryAt (held t) d .root → z ≡ true → (st va : List ℕ) → Stored (l .state) (l .value) (l .sets) vs (length vs) st va
+              → Does t l (renewal c b vs) (withSecrets (pushed (reset l c d n m) rt (getD (l .balance) c 0 + m) (l .sets)) st va)
+          renew-taken-by {rt} er h st va s =
+              subst (λ r. Does t l (renewal c b vs) (withSecrets (pushed (reset l c d n m) r (getD (l .balance) c 0 + m) (l .sets)) st va)) (sym (er ∙ ap (λ d. defEntryAt (held t) d .root) ed))
+              (subst (λ m′. Does t l (renewal c b vs) (withSecrets (pushed (reset l c d n m′) (defEntryAt (held t) D .root) (getD (l .balance) c 0 + m′) (l .sets)) st va)) (sym same-more)
+              (subst (λ n′. Does t l (renewal c b vs) (withSecrets (pushed (reset l c d n′ more) (defEntryAt (held t) D .root) (getD (l .balance) c 0 + more) (l .sets)) st va)) ev
+              (subst (λ d′. Does t l (renewal c b vs) (withSecrets (pushed (reset l c d′ (length vs) more) (defEntryAt (held t) D .root) (getD (l .balance) c 0 + more) (l .sets)) st va)) (sym ed)
+              (renew-does (ev ∙ same-count) (sym same-room ∙ sym ez ∙ h) st va s))))

@@ -4,11 +4,11 @@ use mathlib.Core.Bool.{Bool, true, false}
 use mathlib.Core.Path.{_≡_, refl, sym, ap, ap₂, _∙_, fun-ext, subst}
 use mathlib.Core.List.{List, [], _∷_, _++_, map}
 use native.Mathlib.Omega.{arith}
-use lib.ListN.{getD, length}
+use lib.ListN.{getD, length, take, drop}
 use lib.Dec.{ltb, leb}
 use borrow.Author.Tests.{le-leb, lt-leb, ltb-true, ltb-false}
 use Rattle.bitml.specs.Lists.{_&_, ask, every, upFrom}
-use Rattle.bitml.specs.Sheet.{holds}
+use Rattle.bitml.specs.Sheet.{Cond, holds}
 use Rattle.bitml.specs.Ledger.{fire, refusal, after, Contract, contractAt, commitmentAt, theBranch, newContract, revealed, making, paying, isTold, number}
 use Rattle.bitml.specs.Ledger.{Ledger as Plain}
 use Rattle.bitml.specs.Limits.{within}
@@ -19,7 +19,11 @@ use Rattle.sheets.specs.Ready.{Ready}
 use Rattle.truth.specs.Evaluation.{Values}
 use Rattle.duties.specs.Duties.{toldAt, numberAt}
 use Rattle.duties.proofs.Secrets.{number-in, number-past}
+use Rattle.pages.specs.Pages.{size, start, cellsLong, pagesIn, setNumbers, states, values}
+use Rattle.pages.specs.Pages.{counts as countsOf}
+use Rattle.pages.proofs.Laws.{page-long, page-part}
 use Rattle.ledger.specs.declared.Ledger.{Ledger}
+use Rattle.ledger.specs.Book.{Book, book}
 use Rattle.ledger.specs.View.{view, setOf, commitmentOf}
 use Rattle.ledger.specs.Fit.{Fit}
 use Rattle.ledger.specs.Does.{Does, withAnswer}
@@ -41,7 +45,7 @@ number-commitment zero v f = sym (f refl)
 number-commitment (suc zero) v f = refl
 number-commitment (suc (suc s)) v f = refl
 
-module _ (t : List ℕ) (l : Ledger) (c b q : ℕ) (ok : Ready t) (f : Fit t l) (r : Enabled t l c b q) where
+module _ (t : List ℕ) (l : Book) (c b q : ℕ) (ok : Ready t) (f : Fit t l) (r : Enabled t l c b q) where
   abbrev was : Plain
   was = view (people t) l
 
@@ -109,7 +113,7 @@ module _ (t : List ℕ) (l : Ledger) (c b q : ℕ) (ok : Ready t) (f : Fit t l) 
       r-full h = passed t l (fire c b) f r-asks (ap (λ n. leb n 256) counts ∙ lt-leb (l .made + 1) 256 (omega arith))
 
       module _ (h : l .made < 256) where
-        abbrev next : Ledger
+        abbrev next : Book
         next = pushed (dying l c) (branchEntryAt (held t) q .arg) (getD (l .balance) c 0) I
 
         fits : Contracts t next
@@ -136,6 +140,7 @@ module _ (t : List ℕ) (l : Ledger) (c b q : ℕ) (ok : Ready t) (f : Fit t l) 
               set = fits .set;
               count = f .count;
               value = f .value;
+              masks = f .masks;
               blank = f .blank;
               fresh = fits .fresh;
               lengths = fits .lengths;
@@ -159,5 +164,35 @@ module _ (t : List ℕ) (l : Ledger) (c b q : ℕ) (ok : Ready t) (f : Fit t l) 
     pub cond-by : {x : ℕ} {z : Bool} → x ≡ branchEntryAt (held t) q .cond → z ≡ holds (numberAt (l .value) (I * 8) known) (condAt (held t) x) → z ≡ true?
     cond-by ex ez = ez ∙ ap (λ x. holds (numberAt (l .value) (I * 8) known) (condAt (held t) x)) ex
 
-pub fit-values : (t : List ℕ) (l : Ledger) → Fit t l → Values (l .value)
-fit-values t l f = record { most = f .value }
+-- ---- the sections as they are lent
+
+module _ (C : List ℕ) (h : cellsLong ≤ length C) where
+  states-are : take 256 (drop 1088 C) ≡ pagesIn C states
+  unfolding size start
+  states-are = page-part C states (omega arith)
+
+  values-are : take 256 (drop 1344 C) ≡ pagesIn C values
+  unfolding size start
+  values-are = page-part C values (omega arith)
+
+  pub states-long : length (take 256 (drop 1088 C)) ≡ 256
+  unfolding size
+  states-long = ap (λ xs. length xs) states-are ∙ page-long C states
+
+  pub values-long : length (take 256 (drop 1344 C)) ≡ 256
+  unfolding size
+  values-long = ap (λ xs. length xs) values-are ∙ page-long C values
+
+  module _ (c : ℕ) {i k : ℕ} (ei : i ≡ getD (pagesIn C setNumbers) c 0) (ek : k ≡ getD (pagesIn C countsOf) i 0) where
+    same-count : k ≡ getD (pagesIn C countsOf) (getD (pagesIn C setNumbers) c 0) 0
+    same-count = ek ∙ ap (λ i. getD (pagesIn C countsOf) i 0) ei
+
+    -- over what the code read
+    pub told-read : (xs : List ℕ) → every (toldAt (take 256 (drop 1088 C)) (i * 8) k) xs ≡ every (toldAt (pagesIn C states) (getD (pagesIn C setNumbers) c 0 * 8) (getD (pagesIn C countsOf) (getD (pagesIn C setNumbers) c 0) 0)) xs
+    told-read xs = rw (states-are, same-count, ei) refl
+
+    pub cond-read : (d : Cond) → holds (numberAt (take 256 (drop 1344 C)) (i * 8) k) d ≡ holds (numberAt (pagesIn C values) (getD (pagesIn C setNumbers) c 0 * 8) (getD (pagesIn C countsOf) (getD (pagesIn C setNumbers) c 0) 0)) d
+    cond-read d = rw (values-are, same-count, ei) refl
+
+  pub part-values : (t : List ℕ) (l : Ledger) → Fit t (book l (pagesIn C)) → Values (take 256 (drop 1344 C))
+  part-values t l f = rw values-are (record { most = f .value })

@@ -10,22 +10,22 @@ use lib.Seq.{getD-set-same, getD-set-other}
 use lib.Dec.{eqb, ltb}
 use borrow.Author.Tests.{lt-ltb, eq-eqb, ne-eqb, ltb-true}
 use Rattle.bitml.specs.Lists.{_&_, _or_}
-use Rattle.bitml.specs.Ledger.{sign, refusal, after, Contract, noContract, contractAt, theBranch, signing}
+use Rattle.bitml.specs.Ledger.{sign, refusal, after, Contract, noContract, contractAt, theBranch, signing, live}
 use Rattle.bitml.specs.Ledger.{Ledger as Plain}
 use Rattle.bitml.specs.Limits.{within}
-use Rattle.bitml.proofs.Lists.{and-i, and-false, and-true, and-no, or-l, ask-no, ask-yes}
+use Rattle.bitml.proofs.Lists.{at-set, and-i, and-false, and-true, and-no, or-l, ask-no, ask-yes}
 use Rattle.tables.specs.Entries.{held, people, firstOf}
 use Rattle.tables.specs.SheetOf.{branchEntryAt, branchCount, branchNumber, branchOf, sheetIn}
 use Rattle.tables.proofs.Laws.{firstOf-set}
 use Rattle.sheets.specs.Ready.{Ready}
 use Rattle.sheets.proofs.Bits.{bit}
-use Rattle.duties.proofs.Signing.{bit-clear, bit-put, bit-others}
-use Rattle.ledger.specs.declared.Ledger.{Ledger}
-use Rattle.ledger.specs.View.{view, contractOf, setOf, signedBy}
+use Rattle.duties.proofs.Signing.{bit-clear, bit-put, bit-others, mask-room}
+use Rattle.ledger.specs.Book.{Book}
+use Rattle.ledger.specs.View.{aliveAt, view, contractOf, setOf, signedBy}
 use Rattle.ledger.specs.Fit.{Fit}
 use Rattle.ledger.specs.Does.{Does, withAnswer}
 use Rattle.ledger.proofs.Updates.{withSigned}
-use Rattle.ledger.proofs.Looking.{same?, refused, takes, total-same, deposits-same, live-unknown, live-dead, live-none, live-is, branch-is, contract-of}
+use Rattle.ledger.proofs.Looking.{same?, refused, takes, total-same, deposits-same, live-is, branch-is, contract-of}
 
 or-skip : (a b : Bool) → a ≡ false → (a or b) ≡ b
 unfolding _or_
@@ -71,27 +71,19 @@ module _ (masks : List ℕ) (c b p : ℕ) (hb : b < 16) (hc : c * 16 + b < lengt
 
 -- ---- sign
 
-module _ (t : List ℕ) (l : Ledger) (p c b : ℕ) (ok : Ready t) (f : Fit t l) where
+module _ (t : List ℕ) (l : Book) (p c b : ℕ) (ok : Ready t) (f : Fit t l) where
   abbrev now-as : Plain
   now-as = view (people t) l
 
-  pub sign-unknown : l .made ≤ c → Does t l (sign p c b) (withAnswer l 14)
+  pub sign-absent : live (sheetIn t) now-as c b ≡ false → Does t l (sign p c b) (withAnswer l 14)
   unfolding refusal
-  sign-unknown h = refused t l (sign p c b) 13 f (ask-no _ _ _ (live-unknown t l c b h))
-
-  pub sign-dead : c < l .made → getD (l .alive) c false ≡ false → Does t l (sign p c b) (withAnswer l 14)
-  unfolding refusal
-  sign-dead h e = refused t l (sign p c b) 13 f (ask-no _ _ _ (live-dead t l c b h e))
+  sign-absent z = refused t l (sign p c b) 13 f (ask-no _ _ _ z)
 
   module _ (h : c < l .made) where
     abbrev N : ℕ
     N = getD (l .node) c 0
 
-    pub sign-none : branchCount (held t) N ≤ b → Does t l (sign p c b) (withAnswer l 14)
-    unfolding refusal
-    sign-none k = refused t l (sign p c b) 13 f (ask-no _ _ _ (live-none t l f c b h k))
-
-    module _ (e : getD (l .alive) c false ≡ true) (k : b < branchCount (held t) N) where
+    module _ (e : aliveAt (l .alive) c ≡ true) (k : b < branchCount (held t) N) where
       abbrev R : ℕ
       R = branchNumber (held t) N b
 
@@ -127,7 +119,7 @@ module _ (t : List ℕ) (l : Ledger) (p c b : ℕ) (ok : Ready t) (f : Fit t l) 
       sign-twice-by ex z = sign-twice (sym ex ∙ z)
 
       module _ (s : eqb (bit (branchEntryAt (held t) R .signers) p) 1 ≡ true) (z : eqb (bit (getD (l .signed) (c * 16 + b) 0) p) 1 ≡ false) where
-        abbrev put : Ledger
+        abbrev put : Book
         put = withSigned l (set (l .signed) (c * 16 + b) (getD (l .signed) (c * 16 + b) 0 + 2 ^ p))
 
         inside : c * 16 + b < length (l .signed)
@@ -142,18 +134,18 @@ module _ (t : List ℕ) (l : Ledger) (p c b : ℕ) (ok : Ready t) (f : Fit t l) 
         unfolding view after
         sign-view = ap (λ (cs : List Contract). record { time = l .time; contracts = cs; sets = firstOf (setOf l) (l .sets); paid = firstOf (λ p. getD (l .paid) p 0) (people t) })
             (firstOf-set (contractOf l) (contractOf put) (l .made) c _ noContract h
-            (ap (λ (g : ℕ → ℕ → Bool). record { node = getD (l .node) c 0; balance = getD (l .balance) c 0; set = getD (l .set) c 0; signed = g; alive = getD (l .alive) c false })
+            (ap (λ (g : ℕ → ℕ → Bool). record { node = getD (l .node) c 0; balance = getD (l .balance) c 0; set = getD (l .set) c 0; signed = g; alive = aliveAt (l .alive) c })
             (signed-here (l .signed) c b p few inside (bit-clear _ p z))
             ∙ ap (λ r. signing r b p) (sym (contract-of t l c h)))
-            (λ i hi n. ap (λ (g : ℕ → ℕ → Bool). record { node = getD (l .node) i 0; balance = getD (l .balance) i 0; set = getD (l .set) i 0; signed = g; alive = getD (l .alive) i false })
+            (λ i hi n. ap (λ (g : ℕ → ℕ → Bool). record { node = getD (l .node) i 0; balance = getD (l .balance) i 0; set = getD (l .set) i 0; signed = g; alive = aliveAt (l .alive) i })
             (signed-other (l .signed) c b p few inside (bit-clear _ p z) i n)))
 
         fresh : (k : ℕ) → l .made * 16 ≤ k → getD (put .signed) k 0 ≡ 0
         fresh k x = getD-set-other (l .signed) (c * 16 + b) k _ 0 (λ q. let w = few in omega arith) ∙ f .fresh k x
 
-        sign-taken : Does t l (sign p c b) (withSigned l (set (l .signed) (c * 16 + b) (getD (l .signed) (c * 16 + b) 0 + 2 ^ p)))
+        sign-taken : p < 16 → Does t l (sign p c b) (withSigned l (set (l .signed) (c * 16 + b) (getD (l .signed) (c * 16 + b) 0 + 2 ^ p)))
         unfolding within
-        sign-taken = takes t l (sign p c b) put asks refl refl sign-view
+        sign-taken hp = takes t l (sign p c b) put asks refl refl sign-view
             (record {
               made = f .made;
               sets = f .sets;
@@ -165,6 +157,7 @@ module _ (t : List ℕ) (l : Ledger) (p c b : ℕ) (ok : Ready t) (f : Fit t l) 
               set = f .set;
               count = f .count;
               value = f .value;
+              masks = λ k. at-set (λ y. y ≤ 65535) (l .signed) (c * 16 + b) k _ 0 (f .masks k) (λ _. mask-room p (getD (l .signed) (c * 16 + b) 0) hp (f .masks (c * 16 + b)) refl z);
               blank = f .blank;
               fresh = fresh;
               lengths = record {
@@ -181,9 +174,9 @@ module _ (t : List ℕ) (l : Ledger) (p c b : ℕ) (ok : Ready t) (f : Fit t l) 
               };
             })
 
-      pub sign-taken-by : {q r m : ℕ} {x y : Bool} → q ≡ branchNumber (held t) N b → r ≡ branchEntryAt (held t) q .signers → x ≡ eqb (bit r p) 1 → x ≡ true
+      pub sign-taken-by : {q r m : ℕ} {x y : Bool} → p < 16 → q ≡ branchNumber (held t) N b → r ≡ branchEntryAt (held t) q .signers → x ≡ eqb (bit r p) 1 → x ≡ true
           → y ≡ eqb (bit (getD (l .signed) (c * 16 + b) 0) p) 1 → y ≡ false → m ≡ 2 ^ p
           → Does t l (sign p c b) (withSigned l (set (l .signed) (c * 16 + b) (getD (l .signed) (c * 16 + b) 0 + m)))
-      sign-taken-by eq er ex s ey z em =
+      sign-taken-by hp eq er ex s ey z em =
           subst (λ m. Does t l (sign p c b) (withSigned l (set (l .signed) (c * 16 + b) (getD (l .signed) (c * 16 + b) 0 + m)))) (sym em)
-          (sign-taken (read-signers eq er ex ∙ s) (sym ey ∙ z))
+          (sign-taken (read-signers eq er ex ∙ s) (sym ey ∙ z) hp)

@@ -1,6 +1,5 @@
 -- The contracts of a split, made one after the other; and the ways out of firing an `s`. Assumes nothing.
 use Prim.Native.Nat.{ℕ, suc, _+_, _*_, _-_, _/_, _≤_, _<_}
-use mathlib.Core.Bool.{Bool}
 use mathlib.Core.Path.{_≡_, refl, sym, ap, ap₂, _∙_, subst}
 use mathlib.Core.List.{List, [], _∷_, _++_, map, append-assoc}
 use native.Mathlib.Omega.{arith}
@@ -22,7 +21,7 @@ use Rattle.tables.proofs.SheetOf.{map-map, parts-are, part-small}
 use Rattle.sheets.specs.Ready.{Ready}
 use Rattle.duties.specs.Duties.{weightOf}
 use Rattle.duties.proofs.Sums.{sumFrom, sum-more, weightAt, weights-all}
-use Rattle.ledger.specs.declared.Ledger.{Ledger}
+use Rattle.ledger.specs.Book.{Book}
 use Rattle.ledger.specs.View.{view, contractOf, setOf}
 use Rattle.ledger.specs.Fit.{Fit}
 use Rattle.ledger.specs.Does.{Does, withAnswer}
@@ -71,7 +70,7 @@ shares-length E q v s = splitting-length v (weightOf E q) v s (map (partOf E) (p
 
 -- ---- between two parts: r has the contracts of the first i
 
-pub record Splits (t : List ℕ) (l : Ledger) (q v s : ℕ) (r : Ledger) (left i : ℕ) : Type 0 where
+pub record Splits (t : List ℕ) (l : Book) (q v s : ℕ) (r : Book) (left i : ℕ) : Type 0 where
   pub more : i + 1 ≤ partCount (held t) q
   pub grew : Grown l r
   pub made : r .made ≡ l .made + i
@@ -80,7 +79,7 @@ pub record Splits (t : List ℕ) (l : Ledger) (q v s : ℕ) (r : Ledger) (left i
   pub rest : v * sumFrom (weightAt (held t) q) i (partCount (held t) q) ≤ left * weightOf (held t) q
   pub small : left ≤ v
 
-module _ (t : List ℕ) (l : Ledger) (q v s : ℕ) (ok : Ready t) (hq : q < length (held t .branches)) (w : branchEntryAt (held t) q .kind ≡ 1) (hs : s < l .sets)
+module _ (t : List ℕ) (l : Book) (q v s : ℕ) (ok : Ready t) (hq : q < length (held t .branches)) (w : branchEntryAt (held t) q .kind ≡ 1) (hs : s < l .sets)
     (room : l .made + partCount (held t) q ≤ 256) where
   abbrev E : Entries
   E = held t
@@ -104,12 +103,12 @@ module _ (t : List ℕ) (l : Ledger) (q v s : ℕ) (ok : Ready t) (hq : q < leng
         small = omega arith;
       }
 
-  module _ (r : Ledger) (left i : ℕ) (sp : Splits t l q v s r left i) where
+  module _ (r : Book) (left i : ℕ) (sp : Splits t l q v s r left i) where
     pub made-room : r .made < 256
     made-room = omega (arith, sp .made, sp .more)
 
     set-room : s < r .sets
-    set-room = subst (λ (x : Ledger). s < x .sets) (sym (sp .grew)) hs
+    set-room = subst (λ (x : Book). s < x .sets) (sym (sp .grew)) hs
 
     pub part-in : partNumber E q i < length (E .nodes)
     part-in = part-small E q i (omega (arith, sp .more))
@@ -172,7 +171,7 @@ module _ (t : List ℕ) (l : Ledger) (q v s : ℕ) (ok : Ready t) (hq : q < leng
 
 -- ---- the ways out
 
-module _ (t : List ℕ) (l : Ledger) (c b q : ℕ) (ok : Ready t) (f : Fit t l) (r : Enabled t l c b q) (w : branchEntryAt (held t) q .kind ≡ 1) where
+module _ (t : List ℕ) (l : Book) (c b q : ℕ) (ok : Ready t) (f : Fit t l) (r : Enabled t l c b q) (w : branchEntryAt (held t) q .kind ≡ 1) where
   abbrev was : Plain
   was = view (people t) l
 
@@ -204,7 +203,7 @@ module _ (t : List ℕ) (l : Ledger) (c b q : ℕ) (ok : Ready t) (f : Fit t l) 
   s-full h = passed t l (fire c b) f s-asks (ap (λ n. leb n 256) counts ∙ lt-leb (l .made + partCount (held t) q) 256 h)
 
   module _ (h : l .made + partCount (held t) q ≤ 256) where
-    s-views : (m : ℕ) (n v s : List ℕ) (a : List Bool) → firstOf (contractOf (withContracts (dying l c) m n v s a)) m ≡ firstOf (contractOf (dying l c)) (l .made) ++ new
+    s-views : (m : ℕ) (n v s : List ℕ) (a : List ℕ) → firstOf (contractOf (withContracts (dying l c) m n v s a)) m ≡ firstOf (contractOf (dying l c)) (l .made) ++ new
         → view (people t) (withContracts (dying l c) m n v s a) ≡ after (sheetIn t) was (fire c b)
     unfolding after view actionOf
     s-views m n v s a e =
@@ -212,7 +211,7 @@ module _ (t : List ℕ) (l : Ledger) (c b q : ℕ) (ok : Ready t) (f : Fit t l) 
         (e ∙ ap₂ (λ xs ys. xs ++ ys) (dying-are t l f c (r .here)) (sym s-makes))
         (ap (λ a. paying (was .paid) (contractAt was c .balance) a) (sym (kind-action t l c b q ok f r 1 w)))
 
-    s-grown : (m : ℕ) (n v s : List ℕ) (a : List Bool) → Contracts t (withContracts (dying l c) m n v s a)
+    s-grown : (m : ℕ) (n v s : List ℕ) (a : List ℕ) → Contracts t (withContracts (dying l c) m n v s a)
         → firstOf (contractOf (withContracts (dying l c) m n v s a)) m ≡ firstOf (contractOf (dying l c)) (l .made) ++ new
         → Does t l (fire c b) (withContracts (dying l c) m n v s a)
     unfolding within
@@ -230,13 +229,19 @@ module _ (t : List ℕ) (l : Ledger) (c b q : ℕ) (ok : Ready t) (f : Fit t l) 
           set = k .set;
           count = f .count;
           value = f .value;
+          masks = f .masks;
           blank = f .blank;
           fresh = k .fresh;
           lengths = k .lengths;
         })
 
-    pub s-taken : (m : Ledger) → Makes t (dying l c) new m → Does t l (fire c b) m
+    s-taken : (m : Book) → Makes t (dying l c) new m → Does t l (fire c b) m
     s-taken m d =
         subst (λ x. Does t l (fire c b) x) (sym (d .grew))
         (s-grown (m .made) (m .node) (m .balance) (m .set) (m .alive) (subst (λ x. Contracts t x) (d .grew) (d .contracts))
-        (subst (λ (x : Ledger). firstOf (contractOf x) (x .made) ≡ firstOf (contractOf (dying l c)) (l .made) ++ new) (d .grew) (d .are)))
+        (subst (λ (x : Book). firstOf (contractOf x) (x .made) ≡ firstOf (contractOf (dying l c)) (l .made) ++ new) (d .grew) (d .are)))
+
+    -- over what the code read
+    pub s-taken-by : {d : Book} {v s : ℕ} → d ≡ dying l c → v ≡ getD (l .balance) c 0 → s ≡ getD (l .set) c 0 → (m : Book) → Makes t d (shares (held t) q v s) m → Does t l (fire c b) m
+    s-taken-by {d} {v} {s} ed ev es m x =
+        s-taken m (subst (λ d. Makes t d new m) ed (subst (λ ks. Makes t d ks m) (ap₂ (λ v s. shares (held t) q v s) ev es) x))

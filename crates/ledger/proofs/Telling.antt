@@ -13,14 +13,14 @@ use Rattle.tables.specs.Entries.{people, firstOf}
 use Rattle.tables.specs.SheetOf.{sheetIn}
 use Rattle.tables.proofs.Laws.{firstOf-agree, firstOf-set}
 use Rattle.sheets.specs.Ready.{Ready}
-use Rattle.ledger.specs.declared.Ledger.{Ledger}
+use Rattle.ledger.specs.Book.{Book}
 use Rattle.ledger.specs.View.{view, contractOf, setOf, secretOf, commitmentOf}
 use Rattle.ledger.specs.Fit.{Fit}
 use Rattle.ledger.specs.Does.{Does, withAnswer}
 use Rattle.ledger.proofs.Updates.{withState}
 use Rattle.ledger.proofs.Looking.{refused, takes, total-same, deposits-same, set-of, commitment-of, commitment-past, commitment-none}
 
-module _ (t : List ℕ) (l : Ledger) (i j : ℕ) (ok : Ready t) (f : Fit t l) where
+module _ (t : List ℕ) (l : Book) (i j : ℕ) (ok : Ready t) (f : Fit t l) where
   pub tell-unknown : l .sets ≤ i → Does t l (tell i j) (withAnswer l 17)
   unfolding refusal
   tell-unknown h = refused t l (tell i j) 16 f (ask-no _ _ _ (ap isKept (commitment-none t l i j h)))
@@ -45,7 +45,7 @@ module _ (t : List ℕ) (l : Ledger) (i j : ℕ) (ok : Ready t) (f : Fit t l) wh
       tell-kept n = refused t l (tell i j) 16 f (ask-no _ _ _ (ap isKept (commitment-of t l i j h k) ∙ not-kept S _ n))
 
       module _ (e : S ≡ 1) where
-        abbrev said : Ledger
+        abbrev said : Book
         said = withState l (set (l .state) (i * 8 + j) 2)
 
         tell-asks : refusal (sheetIn t) (view (people t) l) (tell i j) ≡ 0
@@ -88,6 +88,7 @@ module _ (t : List ℕ) (l : Ledger) (i j : ℕ) (ok : Ready t) (f : Fit t l) wh
               set = f .set;
               count = f .count;
               value = f .value;
+              masks = f .masks;
               blank = λ x h. at-set (λ y. y ≡ 0 → getD (l .value) x 0 ≡ 0) (l .state) (i * 8 + j) x 2 0 (f .blank x) (λ _ q. absurd (omega arith)) h;
               fresh = f .fresh;
               lengths = record {

@@ -1,11 +1,10 @@
 -- The ledger with some of its fields changed, as the methods do. Assumes nothing.
 use Prim.Native.Nat.{ℕ, _+_}
-use mathlib.Core.Bool.{Bool, true, false}
 use mathlib.Core.List.{List}
 use lib.ListN.{set}
-use Rattle.ledger.specs.declared.Ledger.{Ledger}
+use Rattle.ledger.specs.Book.{Book}
 
-abbrev pub withTime : Ledger → ℕ → Ledger
+abbrev pub withTime : Book → ℕ → Book
 withTime l time′ =
     record {
       answer = 0;
@@ -25,7 +24,7 @@ withTime l time′ =
       paid = l .paid;
     }
 
-abbrev pub withSigned : Ledger → List ℕ → Ledger
+abbrev pub withSigned : Book → List ℕ → Book
 withSigned l signed′ =
     record {
       answer = 0;
@@ -45,7 +44,7 @@ withSigned l signed′ =
       paid = l .paid;
     }
 
-abbrev pub withState : Ledger → List ℕ → Ledger
+abbrev pub withState : Book → List ℕ → Book
 withState l state′ =
     record {
       answer = 0;
@@ -65,7 +64,7 @@ withState l state′ =
       paid = l .paid;
     }
 
-abbrev pub withPaid : Ledger → List Bool → List ℕ → Ledger
+abbrev pub withPaid : Book → List ℕ → List ℕ → Book
 withPaid l alive′ paid′ =
     record {
       answer = 0;
@@ -86,7 +85,7 @@ withPaid l alive′ paid′ =
     }
 
 -- contract c dies
-abbrev pub dying : Ledger → ℕ → Ledger
+abbrev pub dying : Book → ℕ → Book
 dying l c =
     record {
       answer = 0;
@@ -97,7 +96,7 @@ dying l c =
       node = l .node;
       balance = l .balance;
       set = l .set;
-      alive = set (l .alive) c false;
+      alive = set (l .alive) c 0;
       signed = l .signed;
       definition = l .definition;
       count = l .count;
@@ -107,7 +106,7 @@ dying l c =
     }
 
 -- a contract is made
-abbrev pub pushed : Ledger → ℕ → ℕ → ℕ → Ledger
+abbrev pub pushed : Book → ℕ → ℕ → ℕ → Book
 pushed l n v i =
     record {
       answer = l .answer;
@@ -118,7 +117,7 @@ pushed l n v i =
       node = set (l .node) (l .made) n;
       balance = set (l .balance) (l .made) v;
       set = set (l .set) (l .made) i;
-      alive = set (l .alive) (l .made) true;
+      alive = set (l .alive) (l .made) 1;
       signed = l .signed;
       definition = l .definition;
       count = l .count;
@@ -128,7 +127,7 @@ pushed l n v i =
     }
 
 -- contract c dies, and a set is made, of definition d with n secrets
-abbrev pub reset : Ledger → ℕ → ℕ → ℕ → ℕ → Ledger
+abbrev pub reset : Book → ℕ → ℕ → ℕ → ℕ → Book
 reset l c d n more =
     record {
       answer = 0;
@@ -139,7 +138,7 @@ reset l c d n more =
       node = l .node;
       balance = l .balance;
       set = l .set;
-      alive = set (l .alive) c false;
+      alive = set (l .alive) c 0;
       signed = l .signed;
       definition = set (l .definition) (l .sets) d;
       count = set (l .count) (l .sets) n;

@@ -10,14 +10,14 @@ use Rattle.bitml.specs.Limits.{within, depositsTaken}
 use Rattle.tables.specs.Entries.{people}
 use Rattle.tables.specs.SheetOf.{sheetIn}
 use Rattle.sheets.specs.Ready.{Ready}
-use Rattle.ledger.specs.declared.Ledger.{Ledger}
+use Rattle.ledger.specs.Book.{Book}
 use Rattle.ledger.specs.View.{view}
 use Rattle.ledger.specs.Fit.{Fit}
 use Rattle.ledger.specs.Does.{Does, withAnswer}
 use Rattle.ledger.proofs.Updates.{withTime}
 use Rattle.ledger.proofs.Looking.{passed, takes}
 
-module _ (t : List ℕ) (l : Ledger) (d : ℕ) (ok : Ready t) (f : Fit t l) (h : 1 ≤ d) (k : d ≤ 4294967295) where
+module _ (t : List ℕ) (l : Book) (d : ℕ) (ok : Ready t) (f : Fit t l) (h : 1 ≤ d) (k : d ≤ 4294967295) where
   asked : refusal (sheetIn t) (view (people t) l) (wait d) ≡ 0
   unfolding refusal ask _&_
   asked = rw (le-leb 1 d h, le-leb d 4294967295 k)
@@ -44,6 +44,7 @@ module _ (t : List ℕ) (l : Ledger) (d : ℕ) (ok : Ready t) (f : Fit t l) (h :
         set = f .set;
         count = f .count;
         value = f .value;
+        masks = f .masks;
         blank = f .blank;
         fresh = f .fresh;
         lengths = f .lengths;

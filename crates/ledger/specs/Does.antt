@@ -7,12 +7,12 @@ use Rattle.bitml.specs.Limits.{limitedRefusal, limitedStep}
 use Rattle.tables.specs.Entries.{people}
 use Rattle.tables.specs.SheetOf.{sheetIn}
 use Rattle.duties.specs.Duties.{committed}
-use Rattle.ledger.specs.declared.Ledger.{Ledger}
+use Rattle.ledger.specs.Book.{Book}
 use Rattle.ledger.specs.View.{view}
 use Rattle.ledger.specs.Fit.{Fit}
 
 -- the same ledger with another answer
-abbrev pub withAnswer : Ledger → ℕ → Ledger
+abbrev pub withAnswer : Book → ℕ → Book
 withAnswer l n =
     record {
       answer = n;
@@ -34,14 +34,14 @@ withAnswer l n =
 
 -- "Each event takes a ledger and gives the ledger after it": the answer is 0 where the event is taken, else the number that refuses it,
 -- and "otherwise it is refused and the ledger stays the same", all of it but the answer
-pub record Does (t : List ℕ) (l : Ledger) (e : Event) (r : Ledger) : Type 0 where
+pub record Does (t : List ℕ) (l : Book) (e : Event) (r : Book) : Type 0 where
   pub answer : r .answer ≡ limitedRefusal (sheetIn t) (view (people t) l) e
   pub plain : view (people t) r ≡ limitedStep (sheetIn t) (view (people t) l) e
   pub same : (limitedRefusal (sheetIn t) (view (people t) l) e ≡ 0 → ⊥) → r ≡ withAnswer l (limitedRefusal (sheetIn t) (view (people t) l) e)
   pub fit : Fit t r
 
 -- "At stipulation", with values as they are handed over
-pub record Begins (t vs : List ℕ) (r : Ledger) : Type 0 where
+pub record Begins (t vs : List ℕ) (r : Book) : Type 0 where
   pub answer : r .answer ≡ 0
   pub plain : view (people t) r ≡ stipulated (sheetIn t) (committed vs)
   pub fit : Fit t r

@@ -1,7 +1,6 @@
 -- What holds of the program's ledger between events, over a sheet's table. Assumes nothing.
 use mathlib.Core.Path.{_≡_}
 use Prim.Native.Nat.{ℕ, _+_, _*_, _≤_, _<_}
-use mathlib.Core.Bool.{Bool}
 use mathlib.Core.List.{List}
 use lib.ListN.{length, getD}
 use Rattle.bitml.specs.Lists.{sum}
@@ -9,11 +8,11 @@ use Rattle.bitml.specs.Limits.{depositsTaken}
 use Rattle.bitml.specs.Balance.{locked}
 use Rattle.tables.specs.Entries.{held, people}
 use Rattle.tables.specs.SheetOf.{sheetIn}
-use Rattle.ledger.specs.declared.Ledger.{Ledger}
+use Rattle.ledger.specs.Book.{Book}
 use Rattle.ledger.specs.View.{view}
 
--- How long the arrays are
-pub record Lengths (node balance set : List ℕ) (alive : List Bool) (signed definition count value state paid : List ℕ) : Type 0 where
+-- How long the lists are
+pub record Lengths (node balance set alive signed definition count value state paid : List ℕ) : Type 0 where
   pub nodes : length node ≡ 256
   pub balances : length balance ≡ 256
   pub set-numbers : length set ≡ 256
@@ -25,7 +24,7 @@ pub record Lengths (node balance set : List ℕ) (alive : List Bool) (signed def
   pub states : length state ≡ 256
   pub paids : length paid ≡ 16
 
-pub record Fit (t : List ℕ) (l : Ledger) : Type 0 where
+pub record Fit (t : List ℕ) (l : Book) : Type 0 where
   -- "256 contracts and 32 sets made per run .., time 4,294,967,295, all deposits taken 2,100,000,000,000,000"
   pub made : l .made ≤ 256
   pub sets : l .sets ≤ 32
@@ -39,6 +38,8 @@ pub record Fit (t : List ℕ) (l : Ledger) : Type 0 where
   pub set : (c : ℕ) → c < l .made → getD (l .set) c 0 < l .sets
   pub count : (i : ℕ) → i < l .sets → getD (l .count) i 0 ≤ 8
   pub value : (k : ℕ) → getD (l .value) k 0 ≤ 1000000000
+  -- A branch's signatures are of at most 16 participants
+  pub masks : (k : ℕ) → getD (l .signed) k 0 ≤ 65535
   -- An `x` has no number, and contracts that are not made have no signatures
   pub blank : (k : ℕ) → getD (l .state) k 0 ≡ 0 → getD (l .value) k 0 ≡ 0
   pub fresh : (k : ℕ) → l .made * 16 ≤ k → getD (l .signed) k 0 ≡ 0

@@ -1,3 +1,4 @@
+pub mod Book
 pub mod View
 pub mod Fit
 pub mod Does

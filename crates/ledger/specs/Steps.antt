@@ -1,7 +1,7 @@
 -- What stands between the steps of one event. Assumes nothing.
 use mathlib.Core.Path.{_≡_}
 use Prim.Native.Nat.{ℕ, suc, _+_, _-_, _*_, _≤_, _<_}
-use mathlib.Core.Bool.{Bool, true, false}
+use mathlib.Core.Bool.{Bool, true}
 use mathlib.Core.List.{List, map, _++_}
 use lib.ListN.{length, getD, set}
 use lib.Dec.{leb}
@@ -10,20 +10,26 @@ use Rattle.bitml.specs.Ledger.{Contract, splitting}
 use Rattle.tables.specs.Entries.{Entries, held, people, firstOf}
 use Rattle.tables.specs.SheetOf.{branchCount, branchNumber, partNumbers, partOf}
 use Rattle.duties.specs.Duties.{notYet, weightOf, stateOf}
-use Rattle.ledger.specs.declared.Ledger.{Ledger}
-use Rattle.ledger.specs.View.{contractOf}
+use Rattle.pages.specs.Pages.{Pages, states, values}
+use Rattle.ledger.specs.Book.{Book}
+use Rattle.ledger.specs.View.{aliveAt, contractOf}
 use Rattle.ledger.specs.Fit.{Lengths}
 
+-- "Contract alive": branch b of contract c is entry q of the sheet, and where there is no such contract or branch, q is 1,024, which is none
+pub record Finds (t : List ℕ) (made : ℕ) (node alive : List ℕ) (c b q : ℕ) : Type 0 where
+  pub none : q ≡ 1024 → c < made → aliveAt alive c ≡ true → branchCount (held t) (getD node c 0) ≤ b
+  pub some : (q ≡ 1024 → ⊥) → (c < made) × (aliveAt alive c ≡ true) × (b < branchCount (held t) (getD node c 0)) × (q ≡ branchNumber (held t) (getD node c 0) b)
+
 -- "Contract alive, opening time not above time, all signers signed": branch b of contract c, which is entry q of the sheet
-pub record Enabled (t : List ℕ) (l : Ledger) (c b q : ℕ) : Type 0 where
+pub record Enabled (t : List ℕ) (l : Book) (c b q : ℕ) : Type 0 where
   pub here : c < l .made
-  pub lives : getD (l .alive) c false ≡ true
+  pub lives : aliveAt (l .alive) c ≡ true
   pub there : b < branchCount (held t) (getD (l .node) c 0)
   pub entry : q ≡ branchNumber (held t) (getD (l .node) c 0) b
   pub ready : notYet (people t) (held t) q (l .time) (getD (l .signed) (c * 16 + b) 0) ≡ 0
 
 -- What holds of the contracts while some are made
-pub record Contracts (t : List ℕ) (l : Ledger) : Type 0 where
+pub record Contracts (t : List ℕ) (l : Book) : Type 0 where
   pub made : l .made ≤ 256
   pub node : (c : ℕ) → c < l .made → getD (l .node) c 0 < length (held t .nodes)
   pub set : (c : ℕ) → c < l .made → getD (l .set) c 0 < l .sets
@@ -35,7 +41,7 @@ abbrev pub shares : Entries → ℕ → ℕ → ℕ → List Contract
 shares E q v i = splitting v (weightOf E q) v i (map (partOf E) (partNumbers E q))
 
 -- A ledger with other contracts
-abbrev pub withContracts : Ledger → ℕ → List ℕ → List ℕ → List ℕ → List Bool → Ledger
+abbrev pub withContracts : Book → ℕ → List ℕ → List ℕ → List ℕ → List ℕ → Book
 withContracts l made′ node′ balance′ set′ alive′ =
     record {
       answer = l .answer;
@@ -56,11 +62,11 @@ withContracts l made′ node′ balance′ set′ alive′ =
     }
 
 -- r has but more contracts than l
-abbrev pub Grown : Ledger → Ledger → Type 0
+abbrev pub Grown : Book → Book → Type 0
 Grown l r = r ≡ withContracts l (r .made) (r .node) (r .balance) (r .set) (r .alive)
 
 -- "its parts are made in order": the contracts ks are made
-pub record Makes (t : List ℕ) (l : Ledger) (ks : List Contract) (r : Ledger) : Type 0 where
+pub record Makes (t : List ℕ) (l : Book) (ks : List Contract) (r : Book) : Type 0 where
   pub grew : Grown l r
   pub contracts : Contracts t r
   pub are : firstOf (contractOf r) (r .made) ≡ firstOf (contractOf l) (l .made) ++ ks
@@ -70,7 +76,7 @@ unfoldable pub room : ℕ → ℕ → ℕ → ℕ → Bool
 room made sets taken more = leb (suc made) 256 & leb (suc sets) 32 & leb (taken + more) 2100000000000000
 
 -- A ledger with other secrets
-abbrev pub withSecrets : Ledger → List ℕ → List ℕ → Ledger
+abbrev pub withSecrets : Book → List ℕ → List ℕ → Book
 withSecrets l state′ value′ =
     record {
       answer = l .answer;
@@ -90,12 +96,16 @@ withSecrets l state′ value′ =
       paid = l .paid;
     }
 
--- "a new set, nothing told": the first n of the values vs are the secrets of set i
-pub record Stores (l : Ledger) (i : ℕ) (vs : List ℕ) (n : ℕ) (r : Ledger) : Type 0 where
-  pub grew : r ≡ withSecrets l (r .state) (r .value)
-  pub states : length (r .state) ≡ 256
-  pub values : length (r .value) ≡ 256
-  pub here : (j : ℕ) → j < n → (getD (r .state) (i * 8 + j) 0 ≡ stateOf (getD vs j 0)) × (getD (r .value) (i * 8 + j) 0 ≡ getD vs j 0 - 1)
-  pub other : (k : ℕ) → k < i * 8 → (getD (r .state) k 0 ≡ getD (l .state) k 0) × (getD (r .value) k 0 ≡ getD (l .value) k 0)
-  pub small : ((k : ℕ) → getD (l .value) k 0 ≤ 1000000000) → (k : ℕ) → getD (r .value) k 0 ≤ 1000000000
-  pub blank : ((k : ℕ) → getD (l .state) k 0 ≡ 0 → getD (l .value) k 0 ≡ 0) → (k : ℕ) → getD (r .state) k 0 ≡ 0 → getD (r .value) k 0 ≡ 0
+-- "a new set, nothing told": the first n of the values vs are the secrets of set i, in states and values that become others
+pub record Stored (state value : List ℕ) (i : ℕ) (vs : List ℕ) (n : ℕ) (state′ value′ : List ℕ) : Type 0 where
+  pub states : length state′ ≡ 256
+  pub values : length value′ ≡ 256
+  pub here : (j : ℕ) → j < n → (getD state′ (i * 8 + j) 0 ≡ stateOf (getD vs j 0)) × (getD value′ (i * 8 + j) 0 ≡ getD vs j 0 - 1)
+  pub other : (k : ℕ) → k < i * 8 → (getD state′ k 0 ≡ getD state k 0) × (getD value′ k 0 ≡ getD value k 0)
+  pub small : ((k : ℕ) → getD value k 0 ≤ 1000000000) → (k : ℕ) → getD value′ k 0 ≤ 1000000000
+  pub blank : ((k : ℕ) → getD state k 0 ≡ 0 → getD value k 0 ≡ 0) → (k : ℕ) → getD state′ k 0 ≡ 0 → getD value′ k 0 ≡ 0
+
+-- The same of the pages, of which no others change
+pub record Stores (P : Pages) (i : ℕ) (vs : List ℕ) (n : ℕ) (Q : Pages) : Type 0 where
+  pub secrets : Stored (P states) (P values) i vs n (Q states) (Q values)
+  pub others : (s : ℕ) → (s ≡ states → ⊥) → (s ≡ values → ⊥) → Q s ≡ P s

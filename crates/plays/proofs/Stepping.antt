@@ -4,8 +4,8 @@ use Prim.Native.Nat.{ℕ, suc, _+_, _-_, _*_, _≤_, _<_}
 use native.Mathlib.Omega.{arith}
 use native.Mathlib.Numerals.{add-one}
 use mathlib.Core.List.{List, _∷_}
-use lib.ListN.{length, getD, take}
-use lib.Seq.{ext-getD, length-take-le, getD-take}
+use lib.ListN.{length, getD, take, drop, length-drop}
+use lib.Seq.{ext-getD, length-take-le, getD-take, getD-drop}
 use Rattle.bitml.specs.Ledger.{Event, wait, sign, tell, fire, renew}
 use Rattle.bitml.specs.Limits.{limitedRefusal}
 use Rattle.bitml.specs.Answers.{endLine, eventLine, endOf}
@@ -23,7 +23,10 @@ use Rattle.events.specs.declared.Event as read
 use Rattle.events.specs.declared.Event.the-variants as line
 use Rattle.events.specs.declared.Lines.the-variants as lines
 use Rattle.events.proofs.Sound.{Sound, event-sound}
+use Rattle.pages.specs.Pages.{cellsLong, size, start, pagesIn, lives, payments}
+use Rattle.pages.proofs.Laws.{page-at}
 use Rattle.ledger.specs.declared.Ledger.{Ledger}
+use Rattle.ledger.specs.Book.{Book, book}
 use Rattle.ledger.specs.View.{view, liveOf}
 use Rattle.ledger.specs.Fit.{Fit}
 use Rattle.ledger.specs.Does.{Does, renewal}
@@ -63,45 +66,51 @@ module _ (s : List ℕ) (people at : ℕ) (x : read.Event) (l : EventLine s peop
   pub no-event : {Q : Type 0} (n p : ℕ) → x ≡ line.Bad n p → Q
   no-event n p h = absurd (event-read s people at (l .more) (l .good) x (l .read) n p h)
 
+-- the same ledger with the same cells
+pub same-book : {l m : Ledger} {C D : List ℕ} → l ≡ m → C ≡ D → book l (pagesIn C) ≡ book m (pagesIn D)
+same-book e h = ap₂ (λ l C. book l (pagesIn C)) e h
+
 -- the event x has made of the ledger l the ledger m, and its line ends at q
-pub record Moved (s t : List ℕ) (l : Ledger) (x : read.Event) (m : Ledger) (q : ℕ) : Type 0 where
+pub record Moved (s t : List ℕ) (l : Book) (x : read.Event) (m : Book) (q : ℕ) : Type 0 where
   pub does : Does t l (eventOf s x) m
   pub next : (w z : ℕ) → nextOf x ≡ Value w z → q ≡ z
 
-module _ (s t : List ℕ) (l : Ledger) (x : read.Event) (m : Ledger) (q : ℕ) where
-  moved-by : (y : read.Event) (e : Event) (r : Ledger) (f : ℕ) → x ≡ y → eventOf s y ≡ e → nextOf y ≡ Value 0 f → Does t l e r → m ≡ r → q ≡ f → Moved s t l x m q
+module _ (s t : List ℕ) (l : Book) (x : read.Event) (m : Book) (q : ℕ) where
+  moved-by : (y : read.Event) (e : Event) (r : Book) (f : ℕ) → x ≡ y → eventOf s y ≡ e → nextOf y ≡ Value 0 f → Does t l e r → m ≡ r → q ≡ f → Moved s t l x m q
   moved-by y e r f h k n d a b =
       record {
         does = subst (λ p. Does t l p m) (sym (ap (eventOf s) h ∙ k)) (subst (λ p. Does t l e p) (sym a) d);
         next = λ w z g. b ∙ (let c : Value 0 f ≡ Value w z = sym (ap nextOf h ∙ n) ∙ g in let i : f ≡ z = cc in i);
       }
 
-  pub moved-wait : (d f : ℕ) (r : Ledger) → x ≡ line.Wait d f → Does t l (wait d) r → m ≡ r → q ≡ f → Moved s t l x m q
+  pub moved-wait : (d f : ℕ) (r : Book) → x ≡ line.Wait d f → Does t l (wait d) r → m ≡ r → q ≡ f → Moved s t l x m q
   unfolding eventOf nextOf
   moved-wait d f r h = moved-by (line.Wait d f) (wait d) r f h refl refl
 
-  pub moved-sign : (p c b f : ℕ) (r : Ledger) → x ≡ line.Sign p c b f → Does t l (sign p c b) r → m ≡ r → q ≡ f → Moved s t l x m q
+  pub moved-sign : (p c b f : ℕ) (r : Book) → x ≡ line.Sign p c b f → Does t l (sign p c b) r → m ≡ r → q ≡ f → Moved s t l x m q
   unfolding eventOf nextOf
   moved-sign p c b f r h = moved-by (line.Sign p c b f) (sign p c b) r f h refl refl
 
-  pub moved-tell : (i j f : ℕ) (r : Ledger) → x ≡ line.Tell i j f → Does t l (tell i j) r → m ≡ r → q ≡ f → Moved s t l x m q
+  pub moved-tell : (i j f : ℕ) (r : Book) → x ≡ line.Tell i j f → Does t l (tell i j) r → m ≡ r → q ≡ f → Moved s t l x m q
   unfolding eventOf nextOf
   moved-tell i j f r h = moved-by (line.Tell i j f) (tell i j) r f h refl refl
 
-  pub moved-fire : (c b f : ℕ) (r : Ledger) → x ≡ line.Fire c b f → Does t l (fire c b) r → m ≡ r → q ≡ f → Moved s t l x m q
+  pub moved-fire : (c b f : ℕ) (r : Book) → x ≡ line.Fire c b f → Does t l (fire c b) r → m ≡ r → q ≡ f → Moved s t l x m q
   unfolding eventOf nextOf
   moved-fire c b f r h = moved-by (line.Fire c b f) (fire c b) r f h refl refl
 
-  pub moved-renew : (c b v n f : ℕ) (r : Ledger) {u₀ u : List ℕ} → x ≡ line.Renew c b v n f → Valued s v n u₀ u → Does t l (renewal c b (take n u)) r → m ≡ r → q ≡ f → Moved s t l x m q
+  pub moved-renew : (c b v n f : ℕ) (r : Book) {u₀ u : List ℕ} → x ≡ line.Renew c b v n f → Valued s v n u₀ u → Does t l (renewal c b (take n u)) r → m ≡ r → q ≡ f → Moved s t l x m q
   unfolding eventOf nextOf
   moved-renew c b v n f r {u = u} h k = moved-by (line.Renew c b v n f) (renewal c b (take n u)) r f h (ap (λ vs. renew c b vs) (sym (values-are k))) refl
 
--- the amounts paid to the participants
-pub paid-are : (xs : List ℕ) (K : ℕ) → K ≤ length xs → take K xs ≡ firstOf (λ p. getD xs p 0) K
-paid-are xs K h =
-    let k = length-take-le K xs h in
-    ext-getD 0 (take K xs) (firstOf (λ p. getD xs p 0) K) (k ∙ sym (firstOf-length (λ p. getD xs p 0) K))
-    (λ i l. getD-take K xs i 0 (omega arith) ∙ sym (firstOf-getD (λ p. getD xs p 0) K i 0 (omega arith)))
+-- the amounts paid to the participants, in the cells that are lent
+pub paid-are : (C : List ℕ) (K : ℕ) → K ≤ 16 → cellsLong ≤ length C → take K (drop 1600 C) ≡ firstOf (λ p. getD (pagesIn C payments) p 0) K
+unfolding size start
+paid-are C K h l =
+    let k = length-take-le K (drop 1600 C) (rw length-drop (omega arith)) in
+    ext-getD 0 (take K (drop 1600 C)) (firstOf (λ p. getD (pagesIn C payments) p 0) K) (k ∙ sym (firstOf-length (λ p. getD (pagesIn C payments) p 0) K))
+    (λ i j. let z : i < K = subst (λ m. i < m) k j in
+    getD-take K (drop 1600 C) i 0 z ∙ getD-drop 1600 C i 0 ∙ sym (page-at C payments i (omega arith)) ∙ sym (firstOf-getD (λ p. getD (pagesIn C payments) p 0) K i 0 z))
 
 zero-first : (x : read.Event) (w z : ℕ) → nextOf x ≡ Value w z → nextOf x ≡ Value 0 z
 unfolding nextOf
@@ -114,7 +123,7 @@ zero-first (line.Bad n p) w z h = never n p w z h
 
 -- ---- the events so far: the ledger l₀ has become l, and of the request the lines from `at` on are left; the text ends at e
 
-pub record Goes (s t : List ℕ) (from first : ℕ) (text₀ : List ℕ) (l₀ : Ledger) (text : List ℕ) (l : Ledger) (at line e : ℕ) : Type 0 where
+pub record Goes (s t : List ℕ) (from first : ℕ) (text₀ : List ℕ) (l₀ : Book) (text : List ℕ) (l : Book) (at line e : ℕ) : Type 0 where
   pub fit : Fit t l
   pub good : eventsAt s (people t) at ≡ lines.Good
   pub on : from ≤ at
@@ -125,7 +134,7 @@ pub record Goes (s t : List ℕ) (from first : ℕ) (text₀ : List ℕ) (l₀ :
   pub lines-few : line ≤ first + (at - from)
   pub coming : Coming text₀ 0 (playText (sheetIn t) (view (people t) l₀) first (eventsOf s (people t) from)) text e (playText (sheetIn t) (view (people t) l) line (eventsOf s (people t) at))
 
-module _ (s t : List ℕ) (from first : ℕ) (text₀ : List ℕ) (l₀ : Ledger) where
+module _ (s t : List ℕ) (from first : ℕ) (text₀ : List ℕ) (l₀ : Book) where
   pub goes-start : Fit t l₀ → eventsAt s (people t) from ≡ lines.Good → from ≤ length s → Goes s t from first text₀ l₀ text₀ l₀ from first 0
   goes-start f g h =
       record {
@@ -139,7 +148,7 @@ module _ (s t : List ℕ) (from first : ℕ) (text₀ : List ℕ) (l₀ : Ledger
         coming = coming-all text₀ 0 (playText (sheetIn t) (view (people t) l₀) first (eventsOf s (people t) from));
       }
 
-  module _ (text : List ℕ) (l : Ledger) (at line e : ℕ) (g : Goes s t from first text₀ l₀ text l at line e) where
+  module _ (text : List ℕ) (l : Book) (at line e : ℕ) (g : Goes s t from first text₀ l₀ text l at line e) where
     pub goes-end : length s ≤ at → (v : List ℕ) (c : ℕ) → Wrote text e (lineText (endOf (view (people t) l))) v c
         → Wrote text₀ 0 (playText (sheetIn t) (view (people t) l₀) first (eventsOf s (people t) from)) v c
     goes-end h v c w =
@@ -159,7 +168,7 @@ module _ (s t : List ℕ) (from first : ℕ) (text₀ : List ℕ) (l₀ : Ledger
           go (Value w z) h = let k = f w z h in zero-first x w z h ∙ ap (Value 0) (sym k)
           go (Bad n p) h = absurd (next-read s (people t) at more (g .good) x rd n p h)
 
-      module _ (m : Ledger) (q : ℕ) (mv : Moved s t l x m q) where
+      module _ (m : Book) (q : ℕ) (mv : Moved s t l x m q) where
         pub goes-ahead : at < q
         goes-ahead = line-within s (people t) at more (g .good) x rd 0 q (behind-is q (mv .next)) .0
 
@@ -194,9 +203,9 @@ module _ (s t : List ℕ) (from first : ℕ) (text₀ : List ℕ) (l₀ : Ledger
 
 -- ---- the last line
 
-pub wrote-end-of : (t : List ℕ) (l : Ledger) → Ready t → Fit t l → (k n : ℕ) → k ≡ people t → n ≡ liveOf (l .alive) (l .made) → {u v : List ℕ} {a b : ℕ}
-    → Wrote u a (lineText (endLine (l .time) n (take k (l .paid)))) v b → Wrote u a (lineText (endOf (view (people t) l))) v b
-wrote-end-of t l ok f k n hk hn {u} {v} {a} {b} w =
-    let e : take k (l .paid) ≡ firstOf (λ p. getD (l .paid) p 0) (people t) =
-    ap (λ j. take j (l .paid)) hk ∙ paid-are (l .paid) (people t) (omega (arith, ok .promises .limits .people, f .lengths .paids)) in
-    subst (λ x. Wrote u a (lineText x) v b) (ap₂ (λ i ps. endLine (l .time) i ps) hn e ∙ sym (end-is (people t) l)) w
+pub wrote-end-of : (t : List ℕ) (l : Ledger) (C : List ℕ) → Ready t → cellsLong ≤ length C → (k n : ℕ) → k ≡ people t → n ≡ liveOf (pagesIn C lives) (l .made) → {u v : List ℕ} {a b : ℕ}
+    → Wrote u a (lineText (endLine (l .time) n (take (1600 + k - 1600) (drop 1600 C)))) v b → Wrote u a (lineText (endOf (view (people t) (book l (pagesIn C))))) v b
+wrote-end-of t l C ok h k n hk hn {u} {v} {a} {b} w =
+    let e : take (1600 + k - 1600) (drop 1600 C) ≡ firstOf (λ p. getD (pagesIn C payments) p 0) (people t) =
+    ap (λ j. take j (drop 1600 C)) (let z : 1600 + k - 1600 ≡ people t = omega arith in z) ∙ paid-are C (people t) (ok .promises .limits .people .1) h in
+    subst (λ x. Wrote u a (lineText x) v b) (ap₂ (λ i ps. endLine (l .time) i ps) hn e ∙ sym (end-is (people t) (book l (pagesIn C)))) w

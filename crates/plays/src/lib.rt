@@ -4,6 +4,8 @@ use events::event_at;
 use exits::clear as clear_numbers;
 use ledger::Ledger;
 use ledger::live;
+use pages::CELLS;
+use pages::PAID;
 use replies::Reply;
 use replies::answered;
 use requests::Commitment;
@@ -27,6 +29,8 @@ ghost use Rattle.events.specs.Events.{eventsAt};
 ghost use Rattle.events.specs.declared.Lines.the-variants.{Good};
 ghost use Rattle.promises.specs.Parts.{PlayPromise};
 ghost use Rattle.sheets.specs.Ready.{Ready, Indexed};
+ghost use Rattle.pages.specs.Pages.{cellsLong, pagesIn};
+ghost use Rattle.ledger.specs.Book.{book};
 ghost use Rattle.ledger.specs.View.{view};
 ghost use Rattle.ledger.specs.Fit.{Fit};
 ghost use Rattle.texts.specs.Text.{lineText, linesText};
@@ -71,21 +75,18 @@ pub fn values(s: &[u8], from: usize, n: usize, out: &mut [usize])
 }
 
 // The last line: time, live contracts, paid by participant.
-fn end(l: Ledger, at: usize, t: &[usize], text: &mut [u8]) -> usize
+fn end(l: Ledger, at: usize, t: &[usize], cells: &[usize], text: &mut [u8]) -> usize
     requires { ⌜ Ready (now t) ⌝ }
-    requires { ⌜ Fit (now t) l ⌝ }
-    requires { ⌜ at + 400 ≤ length (now text) ⌝ }
-    ensures { λ r. ⌜ Wrote (now (text .entry)) at (lineText (endOf (view (people (now (t .entry))) l))) (now (text .exit)) r ⌝ }
+    requires { ⌜ Fit (now t) (book l (pagesIn (now cells))) ⌝ }
+    requires { ⌜ (at + 400 ≤ length (now text)) × (cellsLong ≤ length (now cells)) ⌝ }
+    ensures { λ r. ⌜ Wrote (now (text .entry)) at (lineText (endOf (view (people (now (t .entry))) (book l (pagesIn (now (cells .entry))))))) (now (text .exit)) r ⌝ }
 {
     let k = people(t);
-    let paid = l.paid;
-    let time = l.time;
-    let made = l.made;
-    let lives = live(&l.alive, made);
-    put_end(text, at, time, lives, &paid[..k])
+    let lives = live(cells, l.made);
+    put_end(text, at, l.time, lives, &cells[PAID..PAID + k])
 }
 
-// All events whose lines start at `from`, the first of them in line `first` of the request, each with its answer; and the last line.
+// All events whose lines start at `from`, the first of them in line `first` of the request, each with its answer; and the last line. The ledger goes from event to event.
 fn play(
     l: Ledger,
     s: &[u8],
@@ -94,13 +95,15 @@ fn play(
     t: &[usize],
     x: &[usize],
     text: &mut [u8],
+    cells: &mut [usize],
 ) -> usize
     requires { ⌜ Ready (now t) ⌝ }
     requires { ⌜ Indexed (held (now t)) (now x) ⌝ }
-    requires { ⌜ Fit (now t) l ⌝ }
+    requires { ⌜ Fit (now t) (book l (pagesIn (now cells))) ⌝ }
     requires { ⌜ (length (now s) ≤ 65536) × (from ≤ length (now s)) × (first ≤ 100) × (leastText ≤ length (now text)) ⌝ }
     requires { ⌜ eventsAt (now s) (people (now t)) from ≡ Good ⌝ }
-    ensures { λ r. ⌜ Wrote (now (text .entry)) 0 (linesText (playLines (sheetIn (now (t .entry))) (view (people (now (t .entry))) l) first (eventsOf (now (s .entry)) (people (now (t .entry))) from))) (now (text .exit)) r ⌝ }
+    requires { ⌜ cellsLong ≤ length (now cells) ⌝ }
+    ensures { λ r. ⌜ Wrote (now (text .entry)) 0 (linesText (playLines (sheetIn (now (t .entry))) (view (people (now (t .entry))) (book l (pagesIn (now (cells .entry))))) first (eventsOf (now (s .entry)) (people (now (t .entry))) from))) (now (text .exit)) r ⌝ }
 {
     let k = people(t);
     let mut now = l;
@@ -111,25 +114,25 @@ fn play(
         let v = event_at(s, at, k);
         match v {
             Event::Wait(d, next) => {
-                now = now.wait(t, d);
+                now = now.wait(t, d, cells);
                 at = next;
             }
             Event::Sign(p, c, b, next) => {
-                now = now.sign(t, x, p, c, b);
+                now = now.sign(t, x, p, c, b, cells);
                 at = next;
             }
             Event::Tell(i, j, next) => {
-                now = now.tell(t, i, j);
+                now = now.tell(t, i, j, cells);
                 at = next;
             }
             Event::Fire(c, b, next) => {
-                now = now.fire(t, x, c, b);
+                now = now.fire(t, x, c, b, cells);
                 at = next;
             }
             Event::Renew(c, b, values_at, n, next) => {
                 let mut vs = [0usize; Sheet::SECRETS];
                 values(s, values_at, n, &mut vs);
-                now = now.renew(t, x, c, b, &vs[..n]);
+                now = now.renew(t, x, c, b, &vs[..n], cells);
                 at = next;
             }
             Event::Bad(_, _) => return e,
@@ -137,7 +140,7 @@ fn play(
         e = put_answer(text, e, now.answer, line);
         line += 1;
     }
-    end(now, e, t, text)
+    end(now, e, t, cells, text)
 }
 
 // `play` of a sheet that stands in the table: its values start at `from`, its events at `to`.
@@ -161,8 +164,9 @@ pub fn play_for(
     let n = def_secrets(t, 0);
     let mut vs = [0usize; Sheet::SECRETS];
     values(s, from, n, &mut vs);
-    let l = Ledger::new(t, &vs[..n]);
+    let mut cells = [0usize; CELLS];
+    let l = Ledger::new(t, &vs[..n], &mut cells);
     let defs = def_total(t);
-    let e = play(l, s, to, defs + 3, t, &x, text);
+    let e = play(l, s, to, defs + 3, t, &x, text, &mut cells);
     answered(e)
 }

@@ -1,25 +1,28 @@
+use borrow.Author.Needs.{needs}
 use native.Mathlib.Omega.{arith}
-use mathlib.Core.Path.{_≡_}
+use mathlib.Core.Path.{_≡_, sym, _∙_}
 use mathlib.Core.Logic.{⊎-elim}
 use Prim.Native.Nat.{_+_, _-_, _≤_}
-use borrow.Author.Needs.{needs}
-use Rattle.ledger.specs.View.{liveOf}
 use Rattle.duties.proofs.Sums.{sumFrom, sum-more, sum-end}
+use Rattle.pages.specs.Pages as pages
+use Rattle.pages.specs.Pages.{pagesIn}
+use Rattle.ledger.specs.View.{liveOf}
 use Rattle.ledger.proofs.Ending.{lives, lives-all, lives-yes, lives-no}
 use Rattle.ledger.proofs.live.Statement.{statement}
 use Rattle.ledger.proofs.live.Tie as tie
+use Rattle.pages.proofs.is_alive.Reads as is-alive-reads
 
 abbrev Inv-loop : tie.InvT-loop
-Inv-loop alive made n₀ c₀ n c = (c ≤ made) × (n ≤ c) × (n + sumFrom (lives alive) c made ≡ liveOf alive made)
+Inv-loop cells made n₀ c₀ n c = (c ≤ made) × (n ≤ c) × (n + sumFrom (lives (pagesIn cells pages.lives)) c made ≡ liveOf (pagesIn cells pages.lives) made)
 
 abbrev μ-loop : tie.MeasureT-loop
-μ-loop alive made n₀ c₀ n c = made - c
+μ-loop cells made n₀ c₀ n c = made - c
 
 loop-holds : tie.Need-loop-holds Inv-loop μ-loop
-loop-holds c = let a = c .args in let z = lives-all (a .alive .now) (a .made) in (omega arith, omega arith, omega arith)
+loop-holds c = let a = c .before .args in let z = lives-all (pagesIn (a .cells .now) pages.lives) (a .made) in (omega arith, omega arith, omega arith)
 
-element-copy-out-if1 : tie.Need-element-copy-out-if1 Inv-loop μ-loop
-element-copy-out-if1 c = search needs
+is-alive-requires : tie.Need-is-alive-requires Inv-loop μ-loop
+is-alive-requires c κs = search needs
 
 add-n : tie.Need-add-n Inv-loop μ-loop
 add-n c = search needs
@@ -31,16 +34,16 @@ loop-less : tie.Need-loop-less Inv-loop μ-loop
 loop-less c = search needs
 
 loop-again : tie.Need-loop-again Inv-loop μ-loop
-loop-again c = let a = c .before .before .before .before .args in let l = c .before .before .before .loop in
-    let A = a .alive .now in
+loop-again c = let a = c .before .before .before .before .before .args in let l = c .before .before .before .loop in
+    let A = pagesIn (a .cells .now) pages.lives in
     let z = sum-more (lives A) (l .c) (a .made) (omega arith) in
     let k : (c .if1 .n ≡ l .n + lives A (l .c)) × (lives A (l .c) ≤ 1) = ⊎-elim
-    (λ w. let e = lives-yes A (l .c) (w .0 .taken) in (omega (arith, w .1), omega arith))
-    (λ w. let e = lives-no A (l .c) (w .0 .left) in (omega (arith, w .1), omega arith)) (c .if1 .came) in
+    (λ w. let e = lives-yes A (l .c) (sym (c .before .is-alive .ensures) ∙ w .0 .taken) in (omega (arith, w .1), omega arith))
+    (λ w. let e = lives-no A (l .c) (sym (c .before .is-alive .ensures) ∙ w .0 .left) in (omega (arith, w .1), omega arith)) (c .if1 .came) in
     (omega arith, omega (arith, k, l .inv), omega (arith, k, l .inv))
 
 returns : tie.Need-returns Inv-loop μ-loop
-returns c = let a = c .before .before .args in let l = c .before .loop in let z = sum-end (lives (a .alive .now)) (l .c) (a .made) (omega arith) in omega (arith, l .inv)
+returns c = let a = c .before .before .before .args in let l = c .before .loop in let z = sum-end (lives (pagesIn (a .cells .now) pages.lives)) (l .c) (a .made) (omega arith) in omega (arith, l .inv)
 
 pub live-spec : {M : Type 1} → statement M
 live-spec =
@@ -49,7 +52,7 @@ live-spec =
     Inv-loop
     μ-loop
     loop-holds
-    element-copy-out-if1
+    is-alive-requires
     add-n
     add-c
     loop-less

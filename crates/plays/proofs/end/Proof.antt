@@ -1,41 +1,37 @@
-use borrow.Author.Needs.{needs}
-use mathlib.Core.Path.{sym}
-use Prim.Native.Nat.{_≤_}
-use native.Mathlib.Omega.{arith}
-use lib.ListN.{length}
-use lib.Seq.{length-take-le}
 use Rattle.plays.proofs.Stepping.{wrote-end-of}
+use borrow.Author.Needs.{needs}
 use Rattle.plays.proofs.end.Statement.{statement}
 use Rattle.plays.proofs.end.Tie as tie
+use Rattle.ledger.proofs.live.Reads as live-reads
+use Rattle.sheets.proofs.people.Reads as people-reads
+use Rattle.texts.proofs.put_end.Reads as put-end-reads
 
--- src/lib.rt:119:9
 people-requires : tie.Need-people-requires
 people-requires c κs = search needs
 
--- src/lib.rt:123:9
 live-requires : tie.Need-live-requires
 live-requires c κs = search needs
 
--- src/lib.rt:124:36
-array-share-prefix-paid : tie.Need-array-share-prefix-paid
-array-share-prefix-paid c = search needs
+add-put-end : tie.Need-add-put-end
+add-put-end c = search needs
 
--- src/lib.rt:124:36
-slice-aggregate-put-end : tie.Need-slice-aggregate-put-end
-slice-aggregate-put-end c = sym (length-take-le _ _ (omega (arith, c .before .before .before .before .before .before .people .ensures, c .before .before .before .before .before .before .before .before .before .pre .0 .promises .limits .people, c .before .before .before .before .before .before .before .before .before .pre .1 .0 .lengths .paids)))
+sub-put-end : tie.Need-sub-put-end
+sub-put-end c = search needs
 
--- src/lib.rt:124:5
+part-put-end-start : tie.Need-part-put-end-start
+part-put-end-start c = search needs
+
+part-put-end-end : tie.Need-part-put-end-end
+part-put-end-end c = search needs
+
 put-end-requires : tie.Need-put-end-requires
-put-end-requires c κs = let h : c .before .before .before .before .before .before .people .result ≤ length (c .before .before .before .before .before .before .before .before .before .args .t1 .paid) = omega (arith, c .before .before .before .before .before .before .people .ensures, c .before .before .before .before .before .before .before .before .before .pre .0 .promises .limits .people, c .before .before .before .before .before .before .before .before .before .pre .1 .0 .lengths .paids) in
-    (omega (arith, c .before .before .before .before .before .before .before .before .before .pre .1 .1), omega (arith, length-take-le (c .before .before .before .before .before .before .people .result) (c .before .before .before .before .before .before .before .before .before .args .t1 .paid) h, c .before .before .before .before .before .before .people .ensures, c .before .before .before .before .before .before .before .before .before .pre .0 .promises .limits .people))
+put-end-requires c κs = search needs
 
--- src/lib.rt:113:1
 same-length : tie.Need-same-length
 same-length c = search needs
 
--- src/lib.rt:113:1
 returns : tie.Need-returns
-returns c = wrote-end-of (c .before .before .before .before .before .before .before .before .before .before .before .before .args .t .now) (c .before .before .before .before .before .before .before .before .before .before .before .before .args .t1) (c .before .before .before .before .before .before .before .before .before .before .before .before .pre .0) (c .before .before .before .before .before .before .before .before .before .before .before .before .pre .1 .0) _ _ (c .before .before .before .before .before .before .before .before .before .people .ensures) (c .before .before .before .before .before .live .ensures) (c .before .before .put-end .ensures)
+returns c = let p = c .before .before .before .before .before .before .before .before .before .before .pre in wrote-end-of (c .before .before .before .before .before .before .before .before .before .before .args .t .now) (c .before .before .before .before .before .before .before .before .before .before .args .l) (c .before .before .before .before .before .before .before .before .before .before .args .cells .now) (p .0) (p .1 .1 .1) _ _ (c .before .before .before .before .before .before .people .ensures) (c .before .before .before .before .before .live .ensures) (c .before .before .put-end .ensures)
 
 pub end-spec : {M : Type 1} → statement M
 end-spec =
@@ -43,8 +39,10 @@ end-spec =
     (tie.spec
     people-requires
     live-requires
-    array-share-prefix-paid
-    slice-aggregate-put-end
+    add-put-end
+    sub-put-end
+    part-put-end-start
+    part-put-end-end
     put-end-requires
     same-length
     returns)

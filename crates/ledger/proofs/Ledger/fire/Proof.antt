@@ -1,121 +1,111 @@
 use native.Mathlib.Omega.{arith}
-use mathlib.Core.Path.{_≡_, sym, _∙_}
-use borrow.Author.Tests.{not-true, not-false}
-use Prim.Native.Nat.{_+_, _*_, _≤_}
-use lib.ListN.{getD}
-use Rattle.tables.specs.Entries.{held}
+use mathlib.Core.Path.{_≡_, sym, ap, _∙_}
+use Rattle.tables.specs.Entries.{held, people}
 use Rattle.tables.specs.SheetOf.{branchEntryAt}
-use Rattle.ledger.proofs.Looking.{few-branches, entry-small}
-use Rattle.ledger.proofs.Widths.{u16-most}
-use Rattle.ledger.proofs.Firing.{fire-unknown, fire-dead, fire-none, fire-renewal, fire-late, enabled-by}
+use Rattle.duties.specs.Duties.{notYet}
+use Rattle.pages.specs.Pages.{pagesIn}
+use Rattle.ledger.specs.Book.{book}
+use Rattle.ledger.proofs.Looking.{absent, few-branches, entry-small}
+use Rattle.ledger.proofs.Firing.{fire-absent, fire-renewal, fire-late, enabled-by}
 use borrow.Author.Needs.{needs}
 use Rattle.ledger.proofs.Ledger.fire.Statement.{statement}
 use Rattle.ledger.proofs.Ledger.fire.Tie as tie
+use Rattle.duties.proofs.held_back.Reads as held-back-reads
+use Rattle.ledger.proofs.Ledger.reveal.Reads as reveal-reads
+use Rattle.ledger.proofs.Ledger.split.Reads as split-reads
+use Rattle.ledger.proofs.Ledger.withdraw.Reads as withdraw-reads
+use Rattle.ledger.proofs.live_branch.Reads as live-branch-reads
+use Rattle.pages.proofs.signed_for.Reads as signed-for-reads
+use Rattle.sheets.proofs.branch_kind.Reads as branch-kind-reads
+
+live-branch-requires : tie.Need-live-branch-requires
+live-branch-requires c κs = search needs
+
+same-length : tie.Need-same-length
+same-length c = search needs
 
 returns : tie.Need-returns
-returns c = let p = c .before .before .before .pre in fire-unknown _ _ _ _ (p .0) (p .1 .1) (omega arith)
-
-element-copy-out-if2 : tie.Need-element-copy-out-if2
-element-copy-out-if2 c = search needs
-
-returns-2 : tie.Need-returns-2
-returns-2 c = let p = c .before .before .before .before .before .pre in fire-dead _ _ _ _ (p .0) (p .1 .1) (omega arith) (not-true _ (c .if2 .taken))
-
-mul-n : tie.Need-mul-n
-mul-n c = search needs
-
-element-copy-out-n : tie.Need-element-copy-out-n
-element-copy-out-n c = search needs
-
-branch-count-requires : tie.Need-branch-count-requires
-branch-count-requires c κs = (c .before .before .before .before .before .before .pre .0, c .before .before .before .before .before .before .pre .1 .1 .node (c .before .before .before .before .before .before .args .c) (omega arith))
-
-returns-3 : tie.Need-returns-3
-returns-3 c = let p = c .before .before .before .before .before .before .before .before .pre in fire-none _ _ _ _ (p .0) (p .1 .1) (omega arith) (omega (arith, c .before .branch-count .ensures))
-
-branch-of-requires : tie.Need-branch-of-requires
-branch-of-requires c κs = (c .before .before .before .before .before .before .before .before .pre .0, (c .before .before .before .before .before .before .before .before .pre .1 .0, (c .before .before .before .before .before .before .before .before .pre .1 .1 .node (c .before .before .before .before .before .before .before .before .args .c) (omega arith), omega (arith, c .before .branch-count .ensures))))
+returns c = let p = c .before .before .before .before .before .before .pre in fire-absent _ _ _ _ (p .0) (p .1 .1 .0) (absent _ _ _ _ (p .1 .1 .0) (c .before .live-branch .ensures) (c .if1 .taken))
 
 branch-kind-requires : tie.Need-branch-kind-requires
-branch-kind-requires c κs = let a = c .before .before .before .before .before .before .before .before .before .args in (c .before .before .before .before .before .before .before .before .before .pre .0, entry-small (a .t .now) _ (a .b) (c .branch-of .ensures) (omega (arith, c .before .before .branch-count .ensures)))
+branch-kind-requires c κs = let k = c .before .live-branch .ensures .some (c .if1 .left) in (c .before .before .before .before .before .before .pre .0, entry-small (c .before .before .before .before .before .before .args .t .now) _ (c .before .before .before .before .before .before .args .b) (k .3) (k .2))
 
-returns-4 : tie.Need-returns-4
-returns-4 c = let p = c .before .before .before .before .before .before .before .before .before .before .before .pre in
-    fire-renewal _ _ _ _ (p .0) (p .1 .1) (omega arith) (not-false _ (c .before .before .before .before .before .before .if2 .left)) (omega (arith, c .before .before .before .before .branch-count .ensures)) _ (c .before .before .branch-of .ensures) (sym (c .before .branch-kind .ensures) ∙ c .if4 .taken)
+same-length-2 : tie.Need-same-length-2
+same-length-2 c = search needs
 
-mul-mask : tie.Need-mul-mask
-mul-mask c = search needs
+returns-2 : tie.Need-returns-2
+returns-2 c = let p = c .before .before .before .before .before .before .before .before .pre in let k = c .before .before .before .live-branch .ensures .some (c .before .before .if1 .left) in
+    fire-renewal _ _ _ _ (p .0) (p .1 .1 .0) (k .0) (k .1) (k .2) _ (k .3) (sym (c .before .branch-kind .ensures) ∙ c .if2 .taken)
 
-add-mask : tie.Need-add-mask
-add-mask c = let a = c .before .before .before .before .before .before .before .before .before .before .before .args in let p = c .before .before .before .before .before .before .before .before .before .before .before .pre in omega (arith, p .1 .1 .made, c .before .before .before .before .branch-count .ensures, few-branches (a .t .now) (a .t1) (a .c) (p .0) (p .1 .1) (omega arith))
-
-mul-mask-2 : tie.Need-mul-mask-2
-mul-mask-2 c = let a = c .before .before .before .before .before .before .before .before .before .before .before .args in let p = c .before .before .before .before .before .before .before .before .before .before .before .pre in omega (arith, p .1 .1 .made, c .before .before .before .before .branch-count .ensures, few-branches (a .t .now) (a .t1) (a .c) (p .0) (p .1 .1) (omega arith))
-
-element-copy-out-mask : tie.Need-element-copy-out-mask
-element-copy-out-mask c = let a = c .before .before .before .before .before .before .before .before .before .before .before .args in let p = c .before .before .before .before .before .before .before .before .before .before .before .pre in omega (arith, p .1 .1 .made, c .before .before .before .before .branch-count .ensures, few-branches (a .t .now) (a .t1) (a .c) (p .0) (p .1 .1) (omega arith))
-
-cast-mask : tie.Need-cast-mask
-cast-mask c = let a = c .before .before .before .before .before .before .before .before .before .before .before .before .args in let g = c .before .before .before .before .before .before .before .before .before .before .before .before .good .0 .1 .1 .1 .1 .1 .1 .1 .1 .1 .1 .1 .0 in let h : getD (a .t1 .signed) (a .c * 16 + a .b) 0 ≤ 65535 = u16-most (a .t1 .signed) (g .0) (a .c * 16 + a .b) (g .1 .1) in omega arith
+signed-for-requires : tie.Need-signed-for-requires
+signed-for-requires c κs = let p = c .before .before .before .before .before .before .before .before .before .pre in let k = c .before .before .before .before .live-branch .ensures .some (c .before .before .before .if1 .left) in let w = few-branches _ _ _ (p .0) (p .1 .1 .0) (k .0) in (p .1 .1 .1, omega (arith, p .1 .1 .0 .made, k .0), omega (arith, k .2, w))
 
 held-back-requires : tie.Need-held-back-requires
-held-back-requires c κs = let a = c .before .before .before .before .before .before .before .before .before .before .before .before .args in (c .before .before .before .before .before .before .before .before .before .before .before .before .pre .0, entry-small (a .t .now) _ (a .b) (c .before .before .before .branch-of .ensures) (omega (arith, c .before .before .before .before .before .branch-count .ensures)))
+held-back-requires c κs = let k = c .before .before .before .before .before .live-branch .ensures .some (c .before .before .before .before .if1 .left) in (c .before .before .before .before .before .before .before .before .before .before .pre .0, entry-small (c .before .before .before .before .before .before .before .before .before .before .args .t .now) _ (c .before .before .before .before .before .before .before .before .before .before .args .b) (k .3) (k .2))
 
-returns-5 : tie.Need-returns-5
-returns-5 c = let p = c .before .before .before .before .before .before .before .before .before .before .before .before .before .before .pre in
-    fire-late _ _ _ _ (p .0) (p .1 .1) (omega arith) (not-false _ (c .before .before .before .before .before .before .before .before .before .if2 .left)) (omega (arith, c .before .before .before .before .before .before .before .branch-count .ensures)) _ (c .before .before .before .before .before .branch-of .ensures) (λ e. c .before .before .before .if4 .left (c .before .before .before .before .branch-kind .ensures ∙ e)) (c .before .held-back .ensures) (c .if5 .taken)
+same-length-3 : tie.Need-same-length-3
+same-length-3 c = search needs
+
+returns-3 : tie.Need-returns-3
+returns-3 c = let a = c .before .before .before .before .before .before .before .before .before .before .before .before .args in let p = c .before .before .before .before .before .before .before .before .before .before .before .before .pre in let k = c .before .before .before .before .before .before .before .live-branch .ensures .some (c .before .before .before .before .before .before .if1 .left) in
+    fire-late _ _ _ _ (p .0) (p .1 .1 .0) (k .0) (k .1) (k .2) _ (k .3) (λ e. c .before .before .before .before .if2 .left (c .before .before .before .before .before .branch-kind .ensures ∙ e)) (c .before .held-back .ensures ∙ ap (λ m. notYet (people (a .t .now)) (held (a .t .now)) (c .before .before .before .before .before .before .before .live-branch .result) (a .self .time) m) (c .before .before .signed-for .ensures)) (c .if3 .taken)
 
 withdraw-requires : tie.Need-withdraw-requires
-withdraw-requires c κs = let a = c .before .before .before .before .before .before .before .before .before .before .before .before .before .before .before .args in let p = c .before .before .before .before .before .before .before .before .before .before .before .before .before .before .before .pre in
-    let d = enabled-by (a .t .now) (a .t1) (a .c) (a .b) (c .before .before .before .before .before .before .branch-of .result) (omega arith) (not-false _ (c .before .before .before .before .before .before .before .before .before .before .if2 .left)) (omega (arith, c .before .before .before .before .before .before .before .before .branch-count .ensures)) (c .before .before .before .before .before .before .branch-of .ensures) (c .before .before .held-back .ensures) (c .before .if5 .left) in
-    (p .0, (p .1 .1, (d, sym (c .before .before .before .before .before .branch-kind .ensures) ∙ c .if6 .taken)))
+withdraw-requires c κs = let a = c .before .before .before .before .before .before .before .before .before .before .before .before .before .before .args in let p = c .before .before .before .before .before .before .before .before .before .before .before .before .before .before .pre in let k = c .before .before .before .before .before .before .before .before .before .live-branch .ensures .some (c .before .before .before .before .before .before .before .before .if1 .left) in
+    let d = enabled-by (a .t .now) (book (a .self) (pagesIn (a .cells .now))) (a .c) (a .b) (c .before .before .before .before .before .before .before .before .before .live-branch .result) (k .0) (k .1) (k .2) (k .3) (c .before .before .before .held-back .ensures ∙ ap (λ m. notYet (people (a .t .now)) (held (a .t .now)) (c .before .before .before .before .before .before .before .before .before .live-branch .result) (a .self .time) m) (c .before .before .before .before .signed-for .ensures)) (c .before .before .if3 .left) in
+    (p .0, (p .1 .1 .0, (d, (sym (c .before .before .before .before .before .before .before .branch-kind .ensures) ∙ c .before .if4 .taken, p .1 .1 .1))))
+
+same-length-4 : tie.Need-same-length-4
+same-length-4 c = search needs
+
+returns-4 : tie.Need-returns-4
+returns-4 c = search needs
+
+split-requires : tie.Need-split-requires
+split-requires c κs = let a = c .before .before .before .before .before .before .before .before .before .before .before .before .before .before .before .args in let p = c .before .before .before .before .before .before .before .before .before .before .before .before .before .before .before .pre in let k = c .before .before .before .before .before .before .before .before .before .before .live-branch .ensures .some (c .before .before .before .before .before .before .before .before .before .if1 .left) in
+    let d = enabled-by (a .t .now) (book (a .self) (pagesIn (a .cells .now))) (a .c) (a .b) (c .before .before .before .before .before .before .before .before .before .before .live-branch .result) (k .0) (k .1) (k .2) (k .3) (c .before .before .before .before .held-back .ensures ∙ ap (λ m. notYet (people (a .t .now)) (held (a .t .now)) (c .before .before .before .before .before .before .before .before .before .before .live-branch .result) (a .self .time) m) (c .before .before .before .before .before .signed-for .ensures)) (c .before .before .before .if3 .left) in
+    (p .0, (p .1 .0, (p .1 .1 .0, (d, (sym (c .before .before .before .before .before .before .before .before .branch-kind .ensures) ∙ c .before .if5 .taken, p .1 .1 .1)))))
+
+same-length-5 : tie.Need-same-length-5
+same-length-5 c = search needs
+
+returns-5 : tie.Need-returns-5
+returns-5 c = search needs
+
+reveal-requires : tie.Need-reveal-requires
+reveal-requires c κs = let a = c .before .before .before .before .before .before .before .before .before .before .before .before .before .before .before .args in let p = c .before .before .before .before .before .before .before .before .before .before .before .before .before .before .before .pre in let k = c .before .before .before .before .before .before .before .before .before .before .live-branch .ensures .some (c .before .before .before .before .before .before .before .before .before .if1 .left) in let q = c .before .before .before .before .before .before .before .before .before .before .live-branch .result in
+    let d = enabled-by (a .t .now) (book (a .self) (pagesIn (a .cells .now))) (a .c) (a .b) (c .before .before .before .before .before .before .before .before .before .before .live-branch .result) (k .0) (k .1) (k .2) (k .3) (c .before .before .before .before .held-back .ensures ∙ ap (λ m. notYet (people (a .t .now)) (held (a .t .now)) (c .before .before .before .before .before .before .before .before .before .before .live-branch .result) (a .self .time) m) (c .before .before .before .before .before .signed-for .ensures)) (c .before .before .before .if3 .left) in
+    let most = p .0 .promises .branch q (entry-small (a .t .now) _ (a .b) (k .3) (k .2)) .kind in
+    let e = c .before .before .before .before .before .before .before .before .branch-kind .ensures in let n3 = c .before .before .before .before .before .before .before .if2 .left in let n0 = c .before .before .if4 .left in let n1 = c .before .if5 .left in
+    let w : branchEntryAt (held (a .t .now)) q .kind ≡ 2 = omega arith in
+    (p .0, (p .1 .1 .0, (d, (w, p .1 .1 .1))))
+
+same-length-6 : tie.Need-same-length-6
+same-length-6 c = search needs
 
 returns-6 : tie.Need-returns-6
 returns-6 c = search needs
-
-split-requires : tie.Need-split-requires
-split-requires c κs = let a = c .before .before .before .before .before .before .before .before .before .before .before .before .before .before .before .before .args in let p = c .before .before .before .before .before .before .before .before .before .before .before .before .before .before .before .before .pre in
-    let d = enabled-by (a .t .now) (a .t1) (a .c) (a .b) (c .before .before .before .before .before .before .before .branch-of .result) (omega arith) (not-false _ (c .before .before .before .before .before .before .before .before .before .before .before .if2 .left)) (omega (arith, c .before .before .before .before .before .before .before .before .before .branch-count .ensures)) (c .before .before .before .before .before .before .before .branch-of .ensures) (c .before .before .before .held-back .ensures) (c .before .before .if5 .left) in
-    (p .0, (p .1 .0, (p .1 .1, (d, sym (c .before .before .before .before .before .before .branch-kind .ensures) ∙ c .if7 .taken))))
-
-returns-7 : tie.Need-returns-7
-returns-7 c = search needs
-
-reveal-requires : tie.Need-reveal-requires
-reveal-requires c κs = let a = c .before .before .before .before .before .before .before .before .before .before .before .before .before .before .before .before .args in let p = c .before .before .before .before .before .before .before .before .before .before .before .before .before .before .before .before .pre in let q = c .before .before .before .before .before .before .before .branch-of .result in
-    let d = enabled-by (a .t .now) (a .t1) (a .c) (a .b) q (omega arith) (not-false _ (c .before .before .before .before .before .before .before .before .before .before .before .if2 .left)) (omega (arith, c .before .before .before .before .before .before .before .before .before .branch-count .ensures)) (c .before .before .before .before .before .before .before .branch-of .ensures) (c .before .before .before .held-back .ensures) (c .before .before .if5 .left) in
-    let most = p .0 .promises .branch q (entry-small (a .t .now) _ (a .b) (c .before .before .before .before .before .before .before .branch-of .ensures) (omega (arith, c .before .before .before .before .before .before .before .before .before .branch-count .ensures))) .kind in
-    let e = c .before .before .before .before .before .before .branch-kind .ensures in let n3 = c .before .before .before .before .before .if4 .left in let n0 = c .before .if6 .left in let n1 = c .if7 .left in
-    let k : branchEntryAt (held (a .t .now)) q .kind ≡ 2 = omega arith in
-    (p .0, (p .1 .1, (d, k)))
-
-returns-8 : tie.Need-returns-8
-returns-8 c = search needs
 
 pub fire-spec : {M : Type 1} → statement M
 fire-spec =
     tie.close
     (tie.spec
+    live-branch-requires
+    same-length
     returns
-    element-copy-out-if2
-    returns-2
-    mul-n
-    element-copy-out-n
-    branch-count-requires
-    returns-3
-    branch-of-requires
     branch-kind-requires
-    returns-4
-    mul-mask
-    add-mask
-    mul-mask-2
-    element-copy-out-mask
-    cast-mask
+    same-length-2
+    returns-2
+    signed-for-requires
     held-back-requires
-    returns-5
+    same-length-3
+    returns-3
     withdraw-requires
-    returns-6
+    same-length-4
+    returns-4
     split-requires
-    returns-7
+    same-length-5
+    returns-5
     reveal-requires
-    returns-8)
+    same-length-6
+    returns-6)

@@ -1,124 +1,145 @@
+use mathlib.Core.List.{map}
+use Rattle.bitml.specs.Lists.{upFrom}
+use Rattle.tables.specs.Entries.{held}
+use Rattle.tables.specs.SheetOf.{listedAt, condAt}
 use native.Mathlib.Omega.{arith}
-use mathlib.Core.Path.{sym, _∙_}
+use mathlib.Core.Path.{sym, ap, _∙_}
 use borrow.Author.Tests.{not-true, not-false}
-use Rattle.ledger.proofs.Revealing.{r-numbers, r-untold, r-false, r-full, r-taken-by, told-by, cond-by, fit-values}
+use lib.ListN.{getD}
+use Rattle.pages.specs.Pages.{pagesIn, counts}
+use Rattle.ledger.specs.Book.{book}
+use Rattle.ledger.proofs.Revealing.{r-numbers, r-untold, r-false, r-full, r-taken-by, told-by, cond-by, told-read, cond-read, part-values, states-long, values-long}
 use borrow.Author.Needs.{needs}
 use Rattle.ledger.proofs.Ledger.reveal.Statement.{statement}
 use Rattle.ledger.proofs.Ledger.reveal.Tie as tie
+use Rattle.duties.proofs.all_told.Reads as all-told-reads
+use Rattle.duties.proofs.holds_for.Reads as holds-for-reads
+use Rattle.pages.proofs.balance_of.Reads as balance-of-reads
+use Rattle.pages.proofs.bury.Reads as bury-reads
+use Rattle.pages.proofs.count_of.Reads as count-of-reads
+use Rattle.pages.proofs.put_contract.Reads as put-contract-reads
+use Rattle.pages.proofs.set_of.Reads as set-of-reads
+use Rattle.sheets.proofs.branch_arg.Reads as branch-arg-reads
+use Rattle.sheets.proofs.branch_cond.Reads as branch-cond-reads
+use Rattle.sheets.proofs.branch_first.Reads as branch-first-reads
+use Rattle.sheets.proofs.branch_secrets.Reads as branch-secrets-reads
 
-mul-set : tie.Need-mul-set
-mul-set c = search needs
+set-of-requires : tie.Need-set-of-requires
+set-of-requires c κs = search needs
 
-element-copy-out-set : tie.Need-element-copy-out-set
-element-copy-out-set c = search needs
-
-mul-known : tie.Need-mul-known
-mul-known c = let a = c .before .before .args in let p = c .before .before .pre in omega (arith, r-numbers (a .t .now) (a .t1) (a .c) (a .b) (a .q) (p .0) (p .1 .0) (p .1 .1 .0) (p .1 .1 .1))
-
-element-copy-out-known : tie.Need-element-copy-out-known
-element-copy-out-known c = let a = c .before .before .args in let p = c .before .before .pre in omega (arith, r-numbers (a .t .now) (a .t1) (a .c) (a .b) (a .q) (p .0) (p .1 .0) (p .1 .1 .0) (p .1 .1 .1))
+count-of-requires : tie.Need-count-of-requires
+count-of-requires c κs = let a = c .before .before .before .before .before .args in let p = c .before .before .before .before .before .pre in let n = r-numbers (a .t .now) (book (a .self) (pagesIn (a .cells .now))) (a .c) (a .b) (a .q) (p .0) (p .1 .0) (p .1 .1 .0) (p .1 .1 .1 .0) in let s = c .before .set-of .ensures in (p .1 .1 .1 .1, omega arith)
 
 mul-base : tie.Need-mul-base
-mul-base c = let a = c .before .before .before .args in let p = c .before .before .before .pre in omega (arith, r-numbers (a .t .now) (a .t1) (a .c) (a .b) (a .q) (p .0) (p .1 .0) (p .1 .1 .0) (p .1 .1 .1))
+mul-base c = let a = c .before .before .before .before .before .before .args in let p = c .before .before .before .before .before .before .pre in let n = r-numbers (a .t .now) (book (a .self) (pagesIn (a .cells .now))) (a .c) (a .b) (a .q) (p .0) (p .1 .0) (p .1 .1 .0) (p .1 .1 .1 .0) in let s = c .before .before .set-of .ensures in omega arith
 
 branch-first-requires : tie.Need-branch-first-requires
-branch-first-requires c κs = let a = c .before .before .before .args in let p = c .before .before .before .pre in (p .0, r-numbers (a .t .now) (a .t1) (a .c) (a .b) (a .q) (p .0) (p .1 .0) (p .1 .1 .0) (p .1 .1 .1) .0)
+branch-first-requires c κs = let a = c .before .before .before .before .before .before .args in let p = c .before .before .before .before .before .before .pre in (p .0, r-numbers (a .t .now) (book (a .self) (pagesIn (a .cells .now))) (a .c) (a .b) (a .q) (p .0) (p .1 .0) (p .1 .1 .0) (p .1 .1 .1 .0) .0)
 
 branch-secrets-requires : tie.Need-branch-secrets-requires
-branch-secrets-requires c κs = let a = c .before .before .before .before .args in let p = c .before .before .before .before .pre in (p .0, r-numbers (a .t .now) (a .t1) (a .c) (a .b) (a .q) (p .0) (p .1 .0) (p .1 .1 .0) (p .1 .1 .1) .0)
+branch-secrets-requires c κs = let a = c .before .before .before .before .before .before .before .args in let p = c .before .before .before .before .before .before .before .pre in (p .0, r-numbers (a .t .now) (book (a .self) (pagesIn (a .cells .now))) (a .c) (a .b) (a .q) (p .0) (p .1 .0) (p .1 .1 .0) (p .1 .1 .1 .0) .0)
+
+sub-all-told : tie.Need-sub-all-told
+sub-all-told c = search needs
+
+part-all-told-start : tie.Need-part-all-told-start
+part-all-told-start c = search needs
+
+part-all-told-end : tie.Need-part-all-told-end
+part-all-told-end c = search needs
 
 all-told-requires : tie.Need-all-told-requires
-all-told-requires c κs = let a = c .before .before .before .before .before .before .before .args in let p = c .before .before .before .before .before .before .before .pre in let n = r-numbers (a .t .now) (a .t1) (a .c) (a .b) (a .q) (p .0) (p .1 .0) (p .1 .1 .0) (p .1 .1 .1) in
-    (p .0, (n .3, omega (arith, n .4, c .before .before .before .branch-first .ensures, c .before .before .branch-secrets .ensures)))
+all-told-requires c κs = let a = c .before .before .before .before .before .before .before .before .before .before .args in let p = c .before .before .before .before .before .before .before .before .before .before .pre in let n = r-numbers (a .t .now) (book (a .self) (pagesIn (a .cells .now))) (a .c) (a .b) (a .q) (p .0) (p .1 .0) (p .1 .1 .0) (p .1 .1 .1 .0) in let s = c .before .before .before .before .before .before .set-of .ensures in let k = c .before .before .before .before .count-of .ensures ∙ ap (λ i. getD (pagesIn (a .cells .now) counts) i 0) (c .before .before .before .before .before .before .set-of .ensures) in (p .0, (omega (arith, n .3, states-long (a .cells .now) (p .1 .1 .1 .1)), omega (arith, n .4, c .before .before .before .branch-first .ensures, c .before .before .branch-secrets .ensures)))
+
+same-length : tie.Need-same-length
+same-length c = search needs
 
 returns : tie.Need-returns
-returns c = let a = c .before .before .before .before .before .before .before .before .before .args in let p = c .before .before .before .before .before .before .before .before .before .pre in let e = sym (told-by (a .t .now) (a .t1) (a .c) (a .b) (a .q) (p .0) (p .1 .0) (p .1 .1 .0) (p .1 .1 .1) (c .before .before .before .before .before .branch-first .ensures) (c .before .before .before .before .branch-secrets .ensures) (c .before .all-told .ensures)) in
-    r-untold (a .t .now) (a .t1) (a .c) (a .b) (a .q) (p .0) (p .1 .0) (p .1 .1 .0) (p .1 .1 .1) (e ∙ not-true _ (c .if1 .taken))
+returns c = let a = c .before .before .before .before .before .before .before .before .before .before .before .before .args in let p = c .before .before .before .before .before .before .before .before .before .before .before .before .pre in let e = sym (told-by (a .t .now) (book (a .self) (pagesIn (a .cells .now))) (a .c) (a .b) (a .q) (p .0) (p .1 .0) (p .1 .1 .0) (p .1 .1 .1 .0) (c .before .before .before .before .before .branch-first .ensures) (c .before .before .before .before .branch-secrets .ensures) (c .before .all-told .ensures ∙ told-read (a .cells .now) (p .1 .1 .1 .1) (a .c) (c .before .before .before .before .before .before .before .before .set-of .ensures) (c .before .before .before .before .before .before .count-of .ensures) (map (listedAt (held (a .t .now))) (upFrom (c .before .before .before .before .before .branch-first .result) (c .before .before .before .before .branch-secrets .result))))) in
+    r-untold (a .t .now) (book (a .self) (pagesIn (a .cells .now))) (a .c) (a .b) (a .q) (p .0) (p .1 .0) (p .1 .1 .0) (p .1 .1 .1 .0) (e ∙ not-true _ (c .if1 .taken))
 
 branch-cond-requires : tie.Need-branch-cond-requires
-branch-cond-requires c κs = let a = c .before .before .before .before .before .before .before .before .before .args in let p = c .before .before .before .before .before .before .before .before .before .pre in (p .0, r-numbers (a .t .now) (a .t1) (a .c) (a .b) (a .q) (p .0) (p .1 .0) (p .1 .1 .0) (p .1 .1 .1) .0)
+branch-cond-requires c κs = let a = c .before .before .before .before .before .before .before .before .before .before .before .before .args in let p = c .before .before .before .before .before .before .before .before .before .before .before .before .pre in (p .0, r-numbers (a .t .now) (book (a .self) (pagesIn (a .cells .now))) (a .c) (a .b) (a .q) (p .0) (p .1 .0) (p .1 .1 .0) (p .1 .1 .1 .0) .0)
+
+sub-holds-for : tie.Need-sub-holds-for
+sub-holds-for c = search needs
+
+part-holds-for-start : tie.Need-part-holds-for-start
+part-holds-for-start c = search needs
+
+part-holds-for-end : tie.Need-part-holds-for-end
+part-holds-for-end c = search needs
 
 holds-for-requires : tie.Need-holds-for-requires
-holds-for-requires c κs = let a = c .before .before .before .before .before .before .before .before .before .before .before .before .before .args in let p = c .before .before .before .before .before .before .before .before .before .before .before .before .before .pre in let n = r-numbers (a .t .now) (a .t1) (a .c) (a .b) (a .q) (p .0) (p .1 .0) (p .1 .1 .0) (p .1 .1 .1) in
-    (p .0, ((omega (arith, n .3, p .1 .0 .lengths .values), p .1 .0 .lengths .values, omega (arith, n .5, c .before .before .before .branch-cond .ensures)), fit-values (a .t .now) (a .t1) (p .1 .0)))
+holds-for-requires c κs = let a = c .before .before .before .before .before .before .before .before .before .before .before .before .before .before .before .args in let p = c .before .before .before .before .before .before .before .before .before .before .before .before .before .before .before .pre in let n = r-numbers (a .t .now) (book (a .self) (pagesIn (a .cells .now))) (a .c) (a .b) (a .q) (p .0) (p .1 .0) (p .1 .1 .0) (p .1 .1 .1 .0) in let s = c .before .before .before .before .before .before .before .before .before .before .before .set-of .ensures in let k = c .before .before .before .before .before .before .before .before .before .count-of .ensures ∙ ap (λ i. getD (pagesIn (a .cells .now) counts) i 0) (c .before .before .before .before .before .before .before .before .before .before .before .set-of .ensures) in let z = values-long (a .cells .now) (p .1 .1 .1 .1) in
+    (p .0, ((omega (arith, n .3), omega arith, omega (arith, n .5, c .before .before .branch-cond .ensures)), part-values (a .cells .now) (p .1 .1 .1 .1) (a .t .now) (a .self) (p .1 .0)))
+
+same-length-2 : tie.Need-same-length-2
+same-length-2 c = search needs
 
 returns-2 : tie.Need-returns-2
-returns-2 c = let a = c .before .before .before .before .before .before .before .before .before .before .before .before .before .before .before .args in let p = c .before .before .before .before .before .before .before .before .before .before .before .before .before .before .before .pre in let g = sym (cond-by (a .t .now) (a .t1) (a .c) (a .b) (a .q) (p .0) (p .1 .0) (p .1 .1 .0) (p .1 .1 .1) (c .before .before .before .before .before .branch-cond .ensures) (c .before .holds-for .ensures)) in
-    r-false (a .t .now) (a .t1) (a .c) (a .b) (a .q) (p .0) (p .1 .0) (p .1 .1 .0) (p .1 .1 .1) (g ∙ not-true _ (c .if2 .taken))
+returns-2 c = let a = c .before .before .before .before .before .before .before .before .before .before .before .before .before .before .before .before .before .args in let p = c .before .before .before .before .before .before .before .before .before .before .before .before .before .before .before .before .before .pre in let g = sym (cond-by (a .t .now) (book (a .self) (pagesIn (a .cells .now))) (a .c) (a .b) (a .q) (p .0) (p .1 .0) (p .1 .1 .0) (p .1 .1 .1 .0) (c .before .before .before .before .branch-cond .ensures) (c .before .holds-for .ensures ∙ cond-read (a .cells .now) (p .1 .1 .1 .1) (a .c) (c .before .before .before .before .before .before .before .before .before .before .before .before .before .set-of .ensures) (c .before .before .before .before .before .before .before .before .before .before .before .count-of .ensures) (condAt (held (a .t .now)) (c .before .before .before .before .branch-cond .result)))) in
+    r-false (a .t .now) (book (a .self) (pagesIn (a .cells .now))) (a .c) (a .b) (a .q) (p .0) (p .1 .0) (p .1 .1 .0) (p .1 .1 .1 .0) (g ∙ not-true _ (c .if2 .taken))
+
+same-length-3 : tie.Need-same-length-3
+same-length-3 c = search needs
 
 returns-3 : tie.Need-returns-3
-returns-3 c = let a = c .before .before .before .before .before .before .before .before .before .before .before .before .before .before .before .before .args in let p = c .before .before .before .before .before .before .before .before .before .before .before .before .before .before .before .before .pre in let e = sym (told-by (a .t .now) (a .t1) (a .c) (a .b) (a .q) (p .0) (p .1 .0) (p .1 .1 .0) (p .1 .1 .1) (c .before .before .before .before .before .before .before .before .before .before .before .before .branch-first .ensures) (c .before .before .before .before .before .before .before .before .before .before .before .branch-secrets .ensures) (c .before .before .before .before .before .before .before .before .all-told .ensures)) in
-    let g = sym (cond-by (a .t .now) (a .t1) (a .c) (a .b) (a .q) (p .0) (p .1 .0) (p .1 .1 .0) (p .1 .1 .1) (c .before .before .before .before .before .before .branch-cond .ensures) (c .before .before .holds-for .ensures)) in
-    r-full (a .t .now) (a .t1) (a .c) (a .b) (a .q) (p .0) (p .1 .0) (p .1 .1 .0) (p .1 .1 .1) (e ∙ not-false _ (c .before .before .before .before .before .before .before .if1 .left)) (g ∙ not-false _ (c .before .if2 .left)) (omega arith)
+returns-3 c = let a = c .before .before .before .before .before .before .before .before .before .before .before .before .before .before .before .before .before .before .before .args in let p = c .before .before .before .before .before .before .before .before .before .before .before .before .before .before .before .before .before .before .before .pre in let e = sym (told-by (a .t .now) (book (a .self) (pagesIn (a .cells .now))) (a .c) (a .b) (a .q) (p .0) (p .1 .0) (p .1 .1 .0) (p .1 .1 .1 .0) (c .before .before .before .before .before .before .before .before .before .before .before .before .branch-first .ensures) (c .before .before .before .before .before .before .before .before .before .before .before .branch-secrets .ensures) (c .before .before .before .before .before .before .before .before .all-told .ensures ∙ told-read (a .cells .now) (p .1 .1 .1 .1) (a .c) (c .before .before .before .before .before .before .before .before .before .before .before .before .before .before .before .set-of .ensures) (c .before .before .before .before .before .before .before .before .before .before .before .before .before .count-of .ensures) (map (listedAt (held (a .t .now))) (upFrom (c .before .before .before .before .before .before .before .before .before .before .before .before .branch-first .result) (c .before .before .before .before .before .before .before .before .before .before .before .branch-secrets .result))))) in
+    let g = sym (cond-by (a .t .now) (book (a .self) (pagesIn (a .cells .now))) (a .c) (a .b) (a .q) (p .0) (p .1 .0) (p .1 .1 .0) (p .1 .1 .1 .0) (c .before .before .before .before .before .before .branch-cond .ensures) (c .before .before .before .holds-for .ensures ∙ cond-read (a .cells .now) (p .1 .1 .1 .1) (a .c) (c .before .before .before .before .before .before .before .before .before .before .before .before .before .before .before .set-of .ensures) (c .before .before .before .before .before .before .before .before .before .before .before .before .before .count-of .ensures) (condAt (held (a .t .now)) (c .before .before .before .before .before .before .branch-cond .result)))) in
+    r-full (a .t .now) (book (a .self) (pagesIn (a .cells .now))) (a .c) (a .b) (a .q) (p .0) (p .1 .0) (p .1 .1 .0) (p .1 .1 .1 .0) (e ∙ not-false _ (c .before .before .before .before .before .before .before .if1 .left)) (g ∙ not-false _ (c .before .before .if2 .left)) (omega arith)
 
-mul-v : tie.Need-mul-v
-mul-v c = search needs
-
-element-copy-out-v : tie.Need-element-copy-out-v
-element-copy-out-v c = search needs
+balance-of-requires : tie.Need-balance-of-requires
+balance-of-requires c κs = let a = c .before .before .before .before .before .before .before .before .before .before .before .before .before .before .before .before .before .before .before .before .args in let p = c .before .before .before .before .before .before .before .before .before .before .before .before .before .before .before .before .before .before .before .before .pre in (p .1 .1 .1 .1, omega (arith, p .1 .1 .0 .here, p .1 .0 .made))
 
 branch-arg-requires : tie.Need-branch-arg-requires
-branch-arg-requires c κs = let a = c .before .before .before .before .before .before .before .before .before .before .before .before .before .before .before .before .before .args in let p = c .before .before .before .before .before .before .before .before .before .before .before .before .before .before .before .before .before .pre in (p .0, r-numbers (a .t .now) (a .t1) (a .c) (a .b) (a .q) (p .0) (p .1 .0) (p .1 .1 .0) (p .1 .1 .1) .0)
+branch-arg-requires c κs = let a = c .before .before .before .before .before .before .before .before .before .before .before .before .before .before .before .before .before .before .before .before .before .args in let p = c .before .before .before .before .before .before .before .before .before .before .before .before .before .before .before .before .before .before .before .before .before .pre in (p .0, r-numbers (a .t .now) (book (a .self) (pagesIn (a .cells .now))) (a .c) (a .b) (a .q) (p .0) (p .1 .0) (p .1 .1 .0) (p .1 .1 .1 .0) .0)
 
-element-write-self : tie.Need-element-write-self
-element-write-self c = search needs
+bury-requires : tie.Need-bury-requires
+bury-requires c κs = let a = c .before .before .before .before .before .before .before .before .before .before .before .before .before .before .before .before .before .before .before .before .before .before .before .args in let p = c .before .before .before .before .before .before .before .before .before .before .before .before .before .before .before .before .before .before .before .before .before .before .before .pre in (p .1 .1 .1 .1, omega (arith, p .1 .1 .0 .here, p .1 .0 .made))
 
-mul-self : tie.Need-mul-self
-mul-self c = search needs
-
-element-write-self-2 : tie.Need-element-write-self-2
-element-write-self-2 c = search needs
-
-mul-self-2 : tie.Need-mul-self-2
-mul-self-2 c = search needs
-
-element-write-self-3 : tie.Need-element-write-self-3
-element-write-self-3 c = search needs
-
-mul-self-3 : tie.Need-mul-self-3
-mul-self-3 c = search needs
-
-element-write-self-4 : tie.Need-element-write-self-4
-element-write-self-4 c = search needs
-
-element-write-self-5 : tie.Need-element-write-self-5
-element-write-self-5 c = search needs
+put-contract-requires : tie.Need-put-contract-requires
+put-contract-requires c κs = let a = c .before .before .before .before .before .before .before .before .before .before .before .before .before .before .before .before .before .before .before .before .before .before .before .before .before .before .before .args in let p = c .before .before .before .before .before .before .before .before .before .before .before .before .before .before .before .before .before .before .before .before .before .before .before .before .before .before .before .pre in (omega (arith, c .before .before .before .bury .kept .0, p .1 .1 .1 .1), omega arith)
 
 add-self : tie.Need-add-self
 add-self c = search needs
 
+same-length-4 : tie.Need-same-length-4
+same-length-4 c = search needs
+
 returns-4 : tie.Need-returns-4
-returns-4 c = let a = c .before .before .before .before .before .before .before .before .before .before .before .before .before .before .before .before .before .before .args in let p = c .before .before .before .before .before .before .before .before .before .before .before .before .before .before .before .before .before .before .pre in let e = sym (told-by (a .t .now) (a .t1) (a .c) (a .b) (a .q) (p .0) (p .1 .0) (p .1 .1 .0) (p .1 .1 .1) (c .before .before .before .before .before .before .before .before .before .before .before .before .before .before .branch-first .ensures) (c .before .before .before .before .before .before .before .before .before .before .before .before .before .branch-secrets .ensures) (c .before .before .before .before .before .before .before .before .before .before .all-told .ensures)) in
-    let g = sym (cond-by (a .t .now) (a .t1) (a .c) (a .b) (a .q) (p .0) (p .1 .0) (p .1 .1 .0) (p .1 .1 .1) (c .before .before .before .before .before .before .before .before .branch-cond .ensures) (c .before .before .before .before .holds-for .ensures)) in
-    r-taken-by (a .t .now) (a .t1) (a .c) (a .b) (a .q) (p .0) (p .1 .0) (p .1 .1 .0) (p .1 .1 .1) (e ∙ not-false _ (c .before .before .before .before .before .before .before .before .before .if1 .left)) (g ∙ not-false _ (c .before .before .before .if2 .left)) (omega arith) (c .branch-arg .ensures)
+returns-4 c = let a = c .before .before .before .before .before .before .before .before .before .before .before .before .before .before .before .before .before .before .before .before .before .before .before .before .before .before .before .before .before .before .before .args in let p = c .before .before .before .before .before .before .before .before .before .before .before .before .before .before .before .before .before .before .before .before .before .before .before .before .before .before .before .before .before .before .before .pre in let e = sym (told-by (a .t .now) (book (a .self) (pagesIn (a .cells .now))) (a .c) (a .b) (a .q) (p .0) (p .1 .0) (p .1 .1 .0) (p .1 .1 .1 .0) (c .before .before .before .before .before .before .before .before .before .before .before .before .before .before .before .before .before .before .before .before .before .before .before .before .branch-first .ensures) (c .before .before .before .before .before .before .before .before .before .before .before .before .before .before .before .before .before .before .before .before .before .before .before .branch-secrets .ensures) (c .before .before .before .before .before .before .before .before .before .before .before .before .before .before .before .before .before .before .before .before .all-told .ensures ∙ told-read (a .cells .now) (p .1 .1 .1 .1) (a .c) (c .before .before .before .before .before .before .before .before .before .before .before .before .before .before .before .before .before .before .before .before .before .before .before .before .before .before .before .set-of .ensures) (c .before .before .before .before .before .before .before .before .before .before .before .before .before .before .before .before .before .before .before .before .before .before .before .before .before .count-of .ensures) (map (listedAt (held (a .t .now))) (upFrom (c .before .before .before .before .before .before .before .before .before .before .before .before .before .before .before .before .before .before .before .before .before .before .before .before .branch-first .result) (c .before .before .before .before .before .before .before .before .before .before .before .before .before .before .before .before .before .before .before .before .before .before .before .branch-secrets .result))))) in
+    let g = sym (cond-by (a .t .now) (book (a .self) (pagesIn (a .cells .now))) (a .c) (a .b) (a .q) (p .0) (p .1 .0) (p .1 .1 .0) (p .1 .1 .1 .0) (c .before .before .before .before .before .before .before .before .before .before .before .before .before .before .before .before .before .before .branch-cond .ensures) (c .before .before .before .before .before .before .before .before .before .before .before .before .before .before .before .holds-for .ensures ∙ cond-read (a .cells .now) (p .1 .1 .1 .1) (a .c) (c .before .before .before .before .before .before .before .before .before .before .before .before .before .before .before .before .before .before .before .before .before .before .before .before .before .before .before .set-of .ensures) (c .before .before .before .before .before .before .before .before .before .before .before .before .before .before .before .before .before .before .before .before .before .before .before .before .before .count-of .ensures) (condAt (held (a .t .now)) (c .before .before .before .before .before .before .before .before .before .before .before .before .before .before .before .before .before .before .branch-cond .result)))) in
+    rw (c .before .before .before .put-contract .ensures, c .before .before .before .before .before .before .before .bury .ensures, c .before .before .before .before .before .before .before .before .before .before .balance-of .ensures, c .before .before .before .before .before .before .before .before .before .before .before .before .before .before .before .before .before .before .before .before .before .before .before .before .before .before .before .set-of .ensures) (r-taken-by (a .t .now) (book (a .self) (pagesIn (a .cells .now))) (a .c) (a .b) (a .q) (p .0) (p .1 .0) (p .1 .1 .0) (p .1 .1 .1 .0) (e ∙ not-false _ (c .before .before .before .before .before .before .before .before .before .before .before .before .before .before .before .before .before .before .before .if1 .left)) (g ∙ not-false _ (c .before .before .before .before .before .before .before .before .before .before .before .before .before .before .if2 .left)) (omega arith) (c .before .before .before .before .before .before .before .before .before .branch-arg .ensures))
 
 pub reveal-spec : {M : Type 1} → statement M
 reveal-spec =
     tie.close
     (tie.spec
-    mul-set
-    element-copy-out-set
-    mul-known
-    element-copy-out-known
+    set-of-requires
+    count-of-requires
     mul-base
     branch-first-requires
     branch-secrets-requires
+    sub-all-told
+    part-all-told-start
+    part-all-told-end
     all-told-requires
+    same-length
     returns
     branch-cond-requires
+    sub-holds-for
+    part-holds-for-start
+    part-holds-for-end
     holds-for-requires
+    same-length-2
     returns-2
+    same-length-3
     returns-3
-    mul-v
-    element-copy-out-v
+    balance-of-requires
     branch-arg-requires
-    element-write-self
-    mul-self
-    element-write-self-2
-    mul-self-2
-    element-write-self-3
-    mul-self-3
-    element-write-self-4
-    element-write-self-5
+    bury-requires
+    put-contract-requires
     add-self
+    same-length-4
     returns-4)

@@ -1,40 +1,52 @@
+use mathlib.Core.Path.{ap}
+use Rattle.pages.specs.Pages.{pagesIn}
+use Rattle.ledger.specs.declared.Ledger.{Ledger}
+use Rattle.ledger.proofs.Splitting.{s-numbers, s-full, s-taken-by}
 use native.Mathlib.Omega.{arith}
+use mathlib.Core.Path.{_≡_, sym, subst}
+use Rattle.pages.specs.Pages.{Pages, pagesIn}
+use Rattle.tables.specs.Entries.{held}
+use Rattle.ledger.specs.Book.{book}
+use Rattle.ledger.specs.Steps.{Contracts, shares, Makes}
 use Rattle.ledger.proofs.Making.{dying-fits}
-use Rattle.ledger.proofs.Splitting.{s-numbers, s-full, s-taken}
 use borrow.Author.Needs.{needs}
 use Rattle.ledger.proofs.Ledger.split.Statement.{statement}
 use Rattle.ledger.proofs.Ledger.split.Tie as tie
+use Rattle.ledger.proofs.Ledger.make_parts.Reads as make-parts-reads
+use Rattle.pages.proofs.balance_of.Reads as balance-of-reads
+use Rattle.pages.proofs.bury.Reads as bury-reads
+use Rattle.pages.proofs.set_of.Reads as set-of-reads
+use Rattle.sheets.proofs.part_count.Reads as part-count-reads
 
 part-count-requires : tie.Need-part-count-requires
-part-count-requires c κs = let a = c .before .before .args in let p = c .before .before .pre in (p .0, (p .1 .0, s-numbers (a .t .now) (a .t1) (a .c) (a .b) (a .q) (p .0) (p .1 .1 .0) (p .1 .1 .1 .0) (p .1 .1 .1 .1) .0))
+part-count-requires c κs = let a = c .before .before .before .args in let p = c .before .before .before .pre in (p .0, (p .1 .0, s-numbers (a .t .now) (book (a .self) (pagesIn (a .cells .now))) (a .c) (a .b) (a .q) (p .0) (p .1 .1 .0) (p .1 .1 .1 .0) (p .1 .1 .1 .1 .0) .0))
 
 add-if1 : tie.Need-add-if1
-add-if1 c = let a = c .before .before .before .args in let p = c .before .before .before .pre in omega (arith, p .1 .1 .0 .made, c .part-count .ensures, s-numbers (a .t .now) (a .t1) (a .c) (a .b) (a .q) (p .0) (p .1 .1 .0) (p .1 .1 .1 .0) (p .1 .1 .1 .1) .1)
+add-if1 c = let a = c .before .before .before .before .before .args in let p = c .before .before .before .before .before .pre in omega (arith, p .1 .1 .0 .made, c .before .part-count .ensures, s-numbers (a .t .now) (book (a .self) (pagesIn (a .cells .now))) (a .c) (a .b) (a .q) (p .0) (p .1 .1 .0) (p .1 .1 .1 .0) (p .1 .1 .1 .1 .0) .1)
 
 returns : tie.Need-returns
-returns c = let a = c .before .before .before .before .args in let p = c .before .before .before .before .pre in s-full (a .t .now) (a .t1) (a .c) (a .b) (a .q) (p .0) (p .1 .1 .0) (p .1 .1 .1 .0) (p .1 .1 .1 .1) (omega (arith, c .before .part-count .ensures))
+returns c = let a = c .before .before .before .before .before .before .args in let p = c .before .before .before .before .before .before .pre in s-full (a .t .now) (book (a .self) (pagesIn (a .cells .now))) (a .c) (a .b) (a .q) (p .0) (p .1 .1 .0) (p .1 .1 .1 .0) (p .1 .1 .1 .1 .0) (omega (arith, c .before .before .part-count .ensures))
 
-mul-v : tie.Need-mul-v
-mul-v c = search needs
+balance-of-requires : tie.Need-balance-of-requires
+balance-of-requires c κs = search needs
 
-element-copy-out-v : tie.Need-element-copy-out-v
-element-copy-out-v c = search needs
+set-of-requires : tie.Need-set-of-requires
+set-of-requires c κs = search needs
 
-mul-set : tie.Need-mul-set
-mul-set c = search needs
-
-element-copy-out-set : tie.Need-element-copy-out-set
-element-copy-out-set c = search needs
-
-element-write-self : tie.Need-element-write-self
-element-write-self c = search needs
+bury-requires : tie.Need-bury-requires
+bury-requires c κs = search needs
 
 make-parts-requires : tie.Need-make-parts-requires
-make-parts-requires c κs = let a = c .before .before .before .before .before .before .args in let p = c .before .before .before .before .before .before .pre in let k = s-numbers (a .t .now) (a .t1) (a .c) (a .b) (a .q) (p .0) (p .1 .1 .0) (p .1 .1 .1 .0) (p .1 .1 .1 .1) in
-    (p .0, (p .1 .0, (dying-fits (a .c) (p .1 .1 .0), (k .0, p .1 .1 .1 .1, k .2, k .3, omega (arith, c .before .before .before .part-count .ensures)))))
+make-parts-requires c κs = let a = c .before .before .before .before .before .before .before .before .before .before .before .before .before .before .before .args in let p = c .before .before .before .before .before .before .before .before .before .before .before .before .before .before .before .pre in let k = s-numbers (a .t .now) (book (a .self) (pagesIn (a .cells .now))) (a .c) (a .b) (a .q) (p .0) (p .1 .1 .0) (p .1 .1 .1 .0) (p .1 .1 .1 .1 .0) in
+    (p .0, (p .1 .0, (rw (c .before .before .before .bury .ensures) (dying-fits (a .c) (p .1 .1 .0)), ((k .0, p .1 .1 .1 .1 .0, omega (arith, k .2, c .before .before .before .before .before .before .before .balance-of .ensures), omega (arith, k .3, c .before .before .before .before .before .set-of .ensures), omega (arith, c .before .before .before .before .before .before .before .before .before .before .before .part-count .ensures)), omega (arith, c .before .before .before .bury .kept .0, p .1 .1 .1 .1 .1)))))
+
+same-length : tie.Need-same-length
+same-length c = search needs
 
 returns-2 : tie.Need-returns-2
-returns-2 c = let a = c .before .before .before .before .before .before .before .args in let p = c .before .before .before .before .before .before .before .pre in s-taken (a .t .now) (a .t1) (a .c) (a .b) (a .q) (p .0) (p .1 .1 .0) (p .1 .1 .1 .0) (p .1 .1 .1 .1) (omega (arith, c .before .before .before .before .part-count .ensures)) _ (c .make-parts .ensures)
+returns-2 c = let a = c .before .before .before .before .before .before .before .before .before .before .before .before .before .before .before .before .before .before .args in let p = c .before .before .before .before .before .before .before .before .before .before .before .before .before .before .before .before .before .before .pre in
+    let r : Ledger = record { answer = 0; time = a .self .time; made = a .self .made; sets = a .self .sets; taken = a .self .taken } in
+    s-taken-by (a .t .now) (book (a .self) (pagesIn (a .cells .now))) (a .c) (a .b) (a .q) (p .0) (p .1 .1 .0) (p .1 .1 .1 .0) (p .1 .1 .1 .1 .0) (omega (arith, c .before .before .before .before .before .before .before .before .before .before .before .before .before .before .part-count .ensures)) (ap (book r) (c .before .before .before .before .before .before .bury .ensures)) (c .before .before .before .before .before .before .before .before .before .before .balance-of .ensures) (c .before .before .before .before .before .before .before .before .set-of .ensures) _ (c .before .before .make-parts .ensures)
 
 pub split-spec : {M : Type 1} → statement M
 split-spec =
@@ -43,10 +55,9 @@ split-spec =
     part-count-requires
     add-if1
     returns
-    mul-v
-    element-copy-out-v
-    mul-set
-    element-copy-out-set
-    element-write-self
+    balance-of-requires
+    set-of-requires
+    bury-requires
     make-parts-requires
+    same-length
     returns-2)

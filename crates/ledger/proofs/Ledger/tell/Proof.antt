@@ -1,50 +1,62 @@
 use native.Mathlib.Omega.{arith}
+use mathlib.Core.Path.{sym, _∙_}
 use Rattle.ledger.proofs.Telling.{tell-unknown, tell-past, tell-kept, tell-taken}
 use borrow.Author.Needs.{needs}
 use Rattle.ledger.proofs.Ledger.tell.Statement.{statement}
 use Rattle.ledger.proofs.Ledger.tell.Tie as tie
+use Rattle.pages.proofs.count_of.Reads as count-of-reads
+use Rattle.pages.proofs.put_state.Reads as put-state-reads
+use Rattle.pages.proofs.state_at.Reads as state-at-reads
 
 returns : tie.Need-returns
-returns c = let p = c .before .pre in tell-unknown _ _ _ _ (p .0) (p .1) (omega arith)
+returns c = let p = c .before .before .before .pre in tell-unknown _ _ _ _ (p .0) (p .1 .0) (omega arith)
 
-mul-count : tie.Need-mul-count
-mul-count c = search needs
+count-of-requires : tie.Need-count-of-requires
+count-of-requires c κs = search needs
 
-element-copy-out-count : tie.Need-element-copy-out-count
-element-copy-out-count c = search needs
+same-length : tie.Need-same-length
+same-length c = search needs
 
 returns-2 : tie.Need-returns-2
-returns-2 c = let p = c .before .before .before .pre in tell-past _ _ _ _ (p .0) (p .1) (omega arith) (omega arith)
+returns-2 c = let p = c .before .before .before .before .before .before .pre in tell-past _ _ _ _ (p .0) (p .1 .0) (omega arith) (omega (arith, c .before .count-of .ensures))
 
 mul-at : tie.Need-mul-at
 mul-at c = search needs
 
 add-at : tie.Need-add-at
-add-at c = omega (arith, c .before .before .before .pre .1 .count (c .before .before .before .args .i) (omega arith))
+add-at c = omega (arith, c .before .before .before .before .before .before .pre .1 .0 .count (c .before .before .before .before .before .before .args .i) (omega arith), c .before .count-of .ensures)
 
-element-copy-out-if3 : tie.Need-element-copy-out-if3
-element-copy-out-if3 c = omega (arith, c .before .before .before .pre .1 .count (c .before .before .before .args .i) (omega arith))
+state-at-requires : tie.Need-state-at-requires
+state-at-requires c κs = (c .before .before .before .before .before .before .before .pre .1 .1, omega (arith, c .before .before .before .before .before .before .before .pre .1 .0 .count (c .before .before .before .before .before .before .before .args .i) (omega arith), c .before .before .before .before .before .before .before .pre .1 .0 .sets, c .before .before .count-of .ensures))
+
+same-length-2 : tie.Need-same-length-2
+same-length-2 c = search needs
 
 returns-3 : tie.Need-returns-3
-returns-3 c = let p = c .before .before .before .before .before .pre in tell-kept _ _ _ _ (p .0) (p .1) (omega arith) (omega arith) (c .if3 .taken)
+returns-3 c = let p = c .before .before .before .before .before .before .before .before .before .pre in tell-kept _ _ _ _ (p .0) (p .1 .0) (omega arith) (omega (arith, c .before .before .before .before .count-of .ensures)) (λ e. c .if3 .taken (c .before .state-at .ensures ∙ e))
 
-element-write-self : tie.Need-element-write-self
-element-write-self c = omega (arith, c .before .before .before .before .before .pre .1 .count (c .before .before .before .before .before .args .i) (omega arith))
+put-state-requires : tie.Need-put-state-requires
+put-state-requires c κs = (c .before .before .before .before .before .before .before .before .before .before .pre .1 .1, omega (arith, c .before .before .before .before .before .before .before .before .before .before .pre .1 .0 .count (c .before .before .before .before .before .before .before .before .before .before .args .i) (omega arith), c .before .before .before .before .before .before .before .before .before .before .pre .1 .0 .sets, c .before .before .before .before .before .count-of .ensures))
+
+same-length-3 : tie.Need-same-length-3
+same-length-3 c = search needs
 
 returns-4 : tie.Need-returns-4
-returns-4 c = let p = c .before .before .before .before .before .pre in tell-taken _ _ _ _ (p .0) (p .1) (omega arith) (omega arith) (c .if3 .left)
+returns-4 c = let p = c .before .before .before .before .before .before .before .before .before .before .before .before .before .pre in rw (c .before .before .put-state .ensures) (tell-taken _ _ _ _ (p .0) (p .1 .0) (omega arith) (omega (arith, c .before .before .before .before .before .before .before .before .count-of .ensures)) (sym (c .before .before .before .before .before .state-at .ensures) ∙ c .before .before .before .before .if3 .left))
 
 pub tell-spec : {M : Type 1} → statement M
 tell-spec =
     tie.close
     (tie.spec
     returns
-    mul-count
-    element-copy-out-count
+    count-of-requires
+    same-length
     returns-2
     mul-at
     add-at
-    element-copy-out-if3
+    state-at-requires
+    same-length-2
     returns-3
-    element-write-self
+    put-state-requires
+    same-length-3
     returns-4)

@@ -1,50 +1,50 @@
 use native.Mathlib.Omega.{arith}
+use mathlib.Core.Path.{ap}
+use Rattle.pages.specs.Pages.{pagesIn}
+use Rattle.ledger.specs.Book.{book}
 use Rattle.ledger.proofs.Firing.{entry-below, pay-fits-by, w-taken-by}
 use borrow.Author.Needs.{needs}
 use Rattle.ledger.proofs.Ledger.withdraw.Statement.{statement}
 use Rattle.ledger.proofs.Ledger.withdraw.Tie as tie
+use Rattle.pages.proofs.balance_of.Reads as balance-of-reads
+use Rattle.pages.proofs.bury.Reads as bury-reads
+use Rattle.pages.proofs.paid_to.Reads as paid-to-reads
+use Rattle.pages.proofs.put_paid.Reads as put-paid-reads
+use Rattle.sheets.proofs.branch_arg.Reads as branch-arg-reads
 
 branch-arg-requires : tie.Need-branch-arg-requires
-branch-arg-requires c κs = let a = c .before .args in let p = c .before .pre in (p .0, entry-below (a .t .now) (a .t1) (a .c) (a .b) (a .q) (p .0) (p .1 .0) (p .1 .1 .0))
+branch-arg-requires c κs = let a = c .before .before .args in let p = c .before .before .pre in (p .0, entry-below (a .t .now) (book (a .self) (pagesIn (a .cells .now))) (a .c) (a .b) (a .q) (p .0) (p .1 .0) (p .1 .1 .0))
 
-mul-v : tie.Need-mul-v
-mul-v c = search needs
+balance-of-requires : tie.Need-balance-of-requires
+balance-of-requires c κs = search needs
 
-element-copy-out-v : tie.Need-element-copy-out-v
-element-copy-out-v c = search needs
+paid-to-requires : tie.Need-paid-to-requires
+paid-to-requires c κs = let a = c .before .before .before .before .before .before .args in let p = c .before .before .before .before .before .before .pre in (p .1 .1 .1 .1, pay-fits-by (a .t .now) (book (a .self) (pagesIn (a .cells .now))) (a .c) (a .b) (a .q) (p .0) (p .1 .0) (p .1 .1 .0) (p .1 .1 .1 .0) (c .before .before .before .branch-arg .ensures) .0)
 
-mul-had : tie.Need-mul-had
-mul-had c = let a = c .before .before .before .args in let p = c .before .before .before .pre in omega (arith, pay-fits-by (a .t .now) (a .t1) (a .c) (a .b) (a .q) (p .0) (p .1 .0) (p .1 .1 .0) (p .1 .1 .1) (c .before .branch-arg .ensures))
+bury-requires : tie.Need-bury-requires
+bury-requires c κs = search needs
 
-element-copy-out-had : tie.Need-element-copy-out-had
-element-copy-out-had c = let a = c .before .before .before .args in let p = c .before .before .before .pre in omega (arith, pay-fits-by (a .t .now) (a .t1) (a .c) (a .b) (a .q) (p .0) (p .1 .0) (p .1 .1 .0) (p .1 .1 .1) (c .before .branch-arg .ensures))
+add-put-paid : tie.Need-add-put-paid
+add-put-paid c = let a = c .before .before .before .before .before .before .before .before .before .before .before .before .args in let p = c .before .before .before .before .before .before .before .before .before .before .before .before .pre in omega (arith, c .before .before .before .before .before .before .before .balance-of .ensures, c .before .before .before .before .before .paid-to .ensures, pay-fits-by (a .t .now) (book (a .self) (pagesIn (a .cells .now))) (a .c) (a .b) (a .q) (p .0) (p .1 .0) (p .1 .1 .0) (p .1 .1 .1 .0) (c .before .before .before .before .before .before .before .before .before .branch-arg .ensures))
 
-element-write-self : tie.Need-element-write-self
-element-write-self c = search needs
+put-paid-requires : tie.Need-put-paid-requires
+put-paid-requires c κs = let a = c .before .before .before .before .before .before .before .before .before .before .before .before .args in let p = c .before .before .before .before .before .before .before .before .before .before .before .before .pre in (omega (arith, c .before .before .before .bury .kept .0, p .1 .1 .1 .1), pay-fits-by (a .t .now) (book (a .self) (pagesIn (a .cells .now))) (a .c) (a .b) (a .q) (p .0) (p .1 .0) (p .1 .1 .0) (p .1 .1 .1 .0) (c .before .before .before .before .before .before .before .before .before .branch-arg .ensures) .0)
 
-add-self : tie.Need-add-self
-add-self c = let a = c .before .before .before .before .args in let p = c .before .before .before .before .pre in omega (arith, pay-fits-by (a .t .now) (a .t1) (a .c) (a .b) (a .q) (p .0) (p .1 .0) (p .1 .1 .0) (p .1 .1 .1) (c .before .before .branch-arg .ensures))
-
-mul-self : tie.Need-mul-self
-mul-self c = let a = c .before .before .before .before .args in let p = c .before .before .before .before .pre in omega (arith, pay-fits-by (a .t .now) (a .t1) (a .c) (a .b) (a .q) (p .0) (p .1 .0) (p .1 .1 .0) (p .1 .1 .1) (c .before .before .branch-arg .ensures))
-
-element-write-self-2 : tie.Need-element-write-self-2
-element-write-self-2 c = let a = c .before .before .before .before .args in let p = c .before .before .before .before .pre in omega (arith, pay-fits-by (a .t .now) (a .t1) (a .c) (a .b) (a .q) (p .0) (p .1 .0) (p .1 .1 .0) (p .1 .1 .1) (c .before .before .branch-arg .ensures))
+same-length : tie.Need-same-length
+same-length c = search needs
 
 returns : tie.Need-returns
-returns c = let p = c .before .before .before .before .pre in w-taken-by _ _ _ _ _ (p .0) (p .1 .0) (p .1 .1 .0) (p .1 .1 .1) (c .before .before .branch-arg .ensures)
+returns c = let a = c .before .before .before .before .before .before .before .before .before .before .before .before .before .before .before .args in let p = c .before .before .before .before .before .before .before .before .before .before .before .before .before .before .before .pre in rw (c .before .before .put-paid .ensures, c .before .before .before .before .before .before .bury .ensures, c .before .before .before .before .before .before .before .before .paid-to .ensures, c .before .before .before .before .before .before .before .before .before .before .balance-of .ensures) (w-taken-by (a .t .now) (book (a .self) (pagesIn (a .cells .now))) (a .c) (a .b) (a .q) (p .0) (p .1 .0) (p .1 .1 .0) (p .1 .1 .1 .0) (c .before .before .before .before .before .before .before .before .before .before .before .before .branch-arg .ensures))
 
 pub withdraw-spec : {M : Type 1} → statement M
 withdraw-spec =
     tie.close
     (tie.spec
     branch-arg-requires
-    mul-v
-    element-copy-out-v
-    mul-had
-    element-copy-out-had
-    element-write-self
-    add-self
-    mul-self
-    element-write-self-2
+    balance-of-requires
+    paid-to-requires
+    bury-requires
+    add-put-paid
+    put-paid-requires
+    same-length
     returns)

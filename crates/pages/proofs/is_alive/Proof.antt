@@ -1,0 +1,23 @@
+use Rattle.pages.specs.Pages.{size, start}
+use mathlib.Core.Path.{sym, ap}
+use lib.Dec.{eqb}
+use Rattle.pages.proofs.Laws.{page-at}
+use borrow.Author.Needs.{needs}
+use Rattle.pages.proofs.is_alive.Statement.{statement}
+use Rattle.pages.proofs.is_alive.Tie as tie
+
+add-result : tie.Need-add-result
+add-result c = search needs
+
+mul-result : tie.Need-mul-result
+mul-result c = search needs
+
+shared-slice-read-result : tie.Need-shared-slice-read-result
+shared-slice-read-result c = search needs
+
+returns : tie.Need-returns
+unfolding size start
+returns c = ap (λ x. eqb x 1) (sym (page-at _ 3 _ (c .before .pre .1)))
+
+pub is-alive-spec : {M : Type 1} → statement M
+is-alive-spec = tie.close (tie.spec add-result mul-result shared-slice-read-result returns)

@@ -13,7 +13,7 @@ use Rattle.bitml.specs.Lists.{_&_, ask}
 use Rattle.bitml.specs.Sheet.{Sheet}
 use Rattle.bitml.specs.Rows as bitml
 use Rattle.bitml.specs.Answers.{makingAll, Answer, refused, printed, answer}
-use Rattle.tables.specs.Entries.{held, people, tableLong}
+use Rattle.tables.specs.Entries.{held, people, Spacious}
 use Rattle.tables.specs.SheetOf.{nodeEntryAt}
 use Rattle.tables.proofs.Laws.{firstOf-getD}
 use Rattle.tables.proofs.Held.{node-held}
@@ -24,7 +24,7 @@ use Rattle.reader.specs.declared.Request.the-variants as code
 use Rattle.reader.specs.Request.{LastPart, request, readRequest, answered, makeAll, check}
 use Rattle.promises.specs.Parts.{PartPromise}
 use Rattle.promises.specs.Texts.{PromisedWhole}
-use Rattle.promises.proofs.Whole.{promised-whole}
+use Rattle.promises.proofs.Whole.{promised-whole, whole-paid}
 use Rattle.sheets.specs.Ready.{Ready}
 use Rattle.rows.specs.Given.{RowsFit}
 use Rattle.replies.specs.declared.Reply.{Reply}
@@ -56,25 +56,26 @@ module _ (s t u : List ℕ) (x : Request) (read : answered x t u ≡ readRequest
   read-as y l e q = sym (ap (λ z. answered z t u) (sym e) ∙ read) ∙ q
 
   -- so the table keeps the promises of a sheet, and l that of its word
-  pub ready-by : (y : Request) (l : LastPart) → x ≡ y → answered y t u ≡ request (people t) (held t) l → tableLong ≤ length t → Ready t × PartPromise s (people t) (held t) l
+  pub ready-by : (y : Request) (l : LastPart) → x ≡ y → answered y t u ≡ request (people t) (held t) l → Spacious s t → Ready t × PartPromise s (people t) (held t) l
   unfolding PromisedWhole
-  ready-by y l e q long =
-      let k = promised-whole s (people t) (held t) l (read-as y l e q) in
-      (record { long = long; promises = k .0 }, k .1)
+  ready-by y l e q room =
+      let w = read-as y l e q in
+      let k = promised-whole s (people t) (held t) l w in
+      (record { long = omega (arith, room, whole-paid s (people t) (held t) l w); promises = k .0 }, k .1)
 
-  pub ready-check : (p n : ℕ) → x ≡ code.Check p n → tableLong ≤ length t → 1536 ≤ length u → Ready t × (p < people t) × RowsFit t u n
+  pub ready-check : (p n : ℕ) → x ≡ code.Check p n → Spacious s t → 1536 ≤ length u → Ready t × (p < people t) × RowsFit t u n
   unfolding answered PartPromise
-  ready-check p n e long wide =
-      let k = ready-by (code.Check p n) (check p (rowsOf n u)) e refl long in
+  ready-check p n e room wide =
+      let k = ready-by (code.Check p n) (check p (rowsOf n u)) e refl room in
       let l = rows-length n u in (
         k .0,
         k .1 .0,
         record { few = omega (arith, k .1 .1 .few); long = omega (arith, k .1 .1 .few); each = λ i h. row-fits t u n i h (k .1 .1 .each i (omega arith)) },
       )
 
-  pub ready-all : x ≡ code.MakeAll → tableLong ≤ length t → Ready t × ((rows n : ℕ) → Wide s rows n → placesOfAll ≤ rows → numbersOfAll ≤ n)
+  pub ready-all : x ≡ code.MakeAll → Spacious s t → Ready t × ((rows n : ℕ) → Wide s rows n → placesOfAll ≤ rows → numbersOfAll ≤ n)
   unfolding answered Wide
-  ready-all e long = (ready-by code.MakeAll makeAll e refl long .0, λ rows n w. w (people t) (held t) (read-as code.MakeAll makeAll e refl))
+  ready-all e room = (ready-by code.MakeAll makeAll e refl room .0, λ rows n w. w (people t) (held t) (read-as code.MakeAll makeAll e refl))
 
   -- the answer, by what was read
   pub judged-by : (rows : ℕ) {n m : ℕ} {r : Reply} {v b : List ℕ} (y : Request) → x ≡ y → Gives (judged s rows (answered y t u)) n m r v b → Gives (judged s rows (readRequest s)) n m r v b

@@ -22,6 +22,7 @@ ghost use mathlib.Core.Bool.{true, false};
 ghost use Prim.Native.Nat.{_/_, _*_, _-_, _≤_};
 ghost use lib.ListN.{length, take, drop, replicate};
 ghost use Rattle.reader.specs.Request.{readRequest};
+ghost use Rattle.tables.specs.Entries.{Spacious};
 ghost use Rattle.tables.specs.SheetOf.{sheetIn};
 ghost use Rattle.sheets.specs.Ready.{Ready};
 ghost use Rattle.texts.specs.Wrote.{Wrote};
@@ -49,6 +50,11 @@ const ALL_LINE: usize = 8;
 
 // The fewest bytes for a line of three numbers.
 const LINE: usize = 80;
+
+// The longest short request, and how many numbers its table has: a cell for every two bytes.
+const SHORT: usize = 2048;
+
+const SHORT_TABLE: usize = Sheet::CELLS_AT + SHORT / 2;
 
 const TOO_LONG: usize = 1;
 
@@ -84,22 +90,36 @@ fn all_for(t: &[usize], room: usize, rows: &mut [usize], text: &mut [u8]) -> Rep
     make_all_for(t, rows, text)
 }
 
-// A request that is not too long, with buffers that are not too short.
+// A request that is not too long, with buffers that are not too short, and a table that serves for it.
+fn judged_in(s: &[u8], room: usize, t: &mut [usize], rows: &mut [usize], text: &mut [u8]) -> Reply
+    requires { ⌜ (length (now s) ≤ 65536) × (numbersOfOne ≤ length (now rows)) × (leastText ≤ length (now text)) ⌝ }
+    requires { ⌜ Wide (now s) room (length (now rows)) ⌝ }
+    requires { ⌜ Spacious (now s) (now t) ⌝ }
+    ensures { λ r. ⌜ Gives (judged (now (s .entry)) room (readRequest (now (s .entry)))) (length (now (rows .entry))) (length (now (text .entry))) r (now (rows .exit)) (now (text .exit)) ⌝ }
+{
+    let r = read(s, t, rows);
+    match r {
+        Request::Make(p) => make_for(t, p, rows, text),
+        Request::MakeAll => all_for(t, room, rows, text),
+        Request::Why(p) => why_for(t, p, rows, text),
+        Request::Check(p, n) => check_for(t, p, n, rows, text),
+        Request::Play(v, e) => play_for(s, v, e, t, rows, text),
+        Request::Refused(n, l, f) => refuse(n, l, f, rows, text),
+    }
+}
+
+// The same with a table of its own. Clearing it is most of what a small request costs, so a short one has a short table.
 fn judged(s: &[u8], room: usize, rows: &mut [usize], text: &mut [u8]) -> Reply
     requires { ⌜ (length (now s) ≤ 65536) × (numbersOfOne ≤ length (now rows)) × (leastText ≤ length (now text)) ⌝ }
     requires { ⌜ Wide (now s) room (length (now rows)) ⌝ }
     ensures { λ r. ⌜ Gives (judged (now (s .entry)) room (readRequest (now (s .entry)))) (length (now (rows .entry))) (length (now (text .entry))) r (now (rows .exit)) (now (text .exit)) ⌝ }
 {
-    let mut t = [0usize; Sheet::TABLE];
-    let r = read(s, &mut t, rows);
-    match r {
-        Request::Make(p) => make_for(&t, p, rows, text),
-        Request::MakeAll => all_for(&t, room, rows, text),
-        Request::Why(p) => why_for(&t, p, rows, text),
-        Request::Check(p, n) => check_for(&t, p, n, rows, text),
-        Request::Play(v, e) => play_for(s, v, e, &t, rows, text),
-        Request::Refused(n, l, f) => refuse(n, l, f, rows, text),
+    if s.len() <= SHORT {
+        let mut t = [0usize; SHORT_TABLE];
+        return judged_in(s, room, &mut t, rows, text);
     }
+    let mut t = [0usize; Sheet::TABLE];
+    judged_in(s, room, &mut t, rows, text)
 }
 
 // The same of any request and any text buffer. The caller has places for so many rows, three numbers each, and lends them as numbers.

@@ -1,5 +1,5 @@
 -- How the code's steps through a condition give what the definition says. Assumes nothing.
-use Prim.Native.Nat.{ℕ, zero, suc, _-_, _≤_, _<_}
+use Prim.Native.Nat.{ℕ, zero, suc, _+_, _*_, _-_, _≤_, _<_}
 use mathlib.Core.Path.{_≡_, refl, sym, _∙_, subst}
 use mathlib.Core.List.{List}
 use mathlib.Core.Bool.{true, false}
@@ -31,6 +31,10 @@ module _ {s : List ℕ} where
   -- a field of two bytes pays for a cell
   pub room : {st e : St} → HasRoom s st → Took s 2 st e → e .cells < 32768
   room r k = omega arith
+
+  -- as for each before
+  pub pays : {st e : St} → HasRoom s st → Took s 2 st e → 2 * (e .cells + 1) ≤ length s
+  pays r k = omega arith
 
   module _ {limit : ℕ} where
     pub kept-stored : {st e q : St} → HasRoom s st → Took s 2 st e → Stored limit e q → Kept s limit st q

@@ -7,13 +7,13 @@ use tables::St;
 use tables::is_listed;
 use tables::put_cell;
 ghost use mathlib.Core.Path.{_≡_};
-ghost use Prim.Native.Nat.{_≤_, _<_};
+ghost use Prim.Native.Nat.{_+_, _<_};
 ghost use lib.ListN.{length};
 ghost use Rattle.tables.specs.State.{stateOf, Fits};
 ghost use Rattle.steps.specs.Steps.{Met, twice};
 ghost use Rattle.conditions.specs.Words.{conditionCell, expressionCell};
 ghost use Rattle.conditions.specs.Condition.{storeAt, constantAt, secretAt, expressionAt, conditionAt, HasRoom, Stored, Kept};
-ghost use Rattle.tables.specs.Entries.{tableLong};
+ghost use Rattle.tables.specs.Entries.{cellsFrom, Spacious};
 
 // The words, as numbers in base 256.
 const T: usize = b't' as usize;
@@ -64,7 +64,7 @@ fn expression_cell(w: usize) -> usize
 
 // A cell more for the field at p, unless the cells have come to the limit.
 fn store(st: St, p: usize, limit: usize, v: usize, t: &mut [usize]) -> Read
-    requires { ⌜ tableLong ≤ length (now t) ⌝ }
+    requires { ⌜ cellsFrom + st .cells < length (now t) ⌝ }
     requires { ⌜ Fits st ⌝ }
     requires { ⌜ st .cells < 32768 ⌝ }
     ensures { λ r. ⌜ Met (Stored limit st) (storeAt limit p v (stateOf st (now (t .entry)))) r (now (t .exit)) ⌝ }
@@ -78,7 +78,7 @@ fn store(st: St, p: usize, limit: usize, v: usize, t: &mut [usize]) -> Read
 
 // The number of a `k`.
 fn constant(s: &[u8], st: St, limit: usize, t: &mut [usize]) -> Read
-    requires { ⌜ tableLong ≤ length (now t) ⌝ }
+    requires { ⌜ Spacious (now s) (now t) ⌝ }
     requires { ⌜ HasRoom (now s) st ⌝ }
     ensures { λ r. ⌜ Met (Kept (now (s .entry)) limit st) (constantAt (now (s .entry)) limit (stateOf st (now (t .entry)))) r (now (t .exit)) ⌝ }
 {
@@ -91,7 +91,7 @@ fn constant(s: &[u8], st: St, limit: usize, t: &mut [usize]) -> Read
 
 // The secret of a `v`, one of those listed from `from` on.
 fn secret(s: &[u8], st: St, limit: usize, from: usize, t: &mut [usize]) -> Read
-    requires { ⌜ tableLong ≤ length (now t) ⌝ }
+    requires { ⌜ Spacious (now s) (now t) ⌝ }
     requires { ⌜ HasRoom (now s) st ⌝ }
     ensures { λ r. ⌜ Met (Kept (now (s .entry)) limit st) (secretAt (now (s .entry)) limit from (stateOf st (now (t .entry)))) r (now (t .exit)) ⌝ }
 {
@@ -109,7 +109,7 @@ fn secret(s: &[u8], st: St, limit: usize, from: usize, t: &mut [usize]) -> Read
 
 // An expression, with so many words left to nest: of two, the first is read by itself, and the second is the next that is due.
 fn expression(s: &[u8], st: St, depth: usize, limit: usize, from: usize, t: &mut [usize]) -> Read
-    requires { ⌜ tableLong ≤ length (now t) ⌝ }
+    requires { ⌜ Spacious (now s) (now t) ⌝ }
     requires { ⌜ HasRoom (now s) st ⌝ }
     ensures { λ r. ⌜ Met (Kept (now (s .entry)) limit st) (expressionAt (now (s .entry)) limit from depth (stateOf st (now (t .entry)))) r (now (t .exit)) ⌝ }
 {
@@ -154,7 +154,7 @@ fn both_expressions(
     from: usize,
     t: &mut [usize],
 ) -> Read
-    requires { ⌜ tableLong ≤ length (now t) ⌝ }
+    requires { ⌜ Spacious (now s) (now t) ⌝ }
     requires { ⌜ HasRoom (now s) st ⌝ }
     ensures { λ r. ⌜ Met (Kept (now (s .entry)) limit st) (twice (expressionAt (now (s .entry)) limit from depth) (stateOf st (now (t .entry)))) r (now (t .exit)) ⌝ }
 {
@@ -167,7 +167,7 @@ fn both_expressions(
 
 // A condition, with so many words left to nest.
 pub fn condition(s: &[u8], st: St, depth: usize, limit: usize, from: usize, t: &mut [usize]) -> Read
-    requires { ⌜ tableLong ≤ length (now t) ⌝ }
+    requires { ⌜ Spacious (now s) (now t) ⌝ }
     requires { ⌜ HasRoom (now s) st ⌝ }
     ensures { λ r. ⌜ Met (Kept (now (s .entry)) limit st) (conditionAt (now (s .entry)) limit from depth (stateOf st (now (t .entry)))) r (now (t .exit)) ⌝ }
 {
@@ -202,7 +202,7 @@ fn both_conditions(
     from: usize,
     t: &mut [usize],
 ) -> Read
-    requires { ⌜ tableLong ≤ length (now t) ⌝ }
+    requires { ⌜ Spacious (now s) (now t) ⌝ }
     requires { ⌜ HasRoom (now s) st ⌝ }
     ensures { λ r. ⌜ Met (Kept (now (s .entry)) limit st) (twice (conditionAt (now (s .entry)) limit from depth) (stateOf st (now (t .entry)))) r (now (t .exit)) ⌝ }
 {

@@ -19,7 +19,7 @@ ghost use Rattle.steps.specs.Steps.{Met, times};
 ghost use Rattle.conditions.specs.Condition.{HasRoom};
 ghost use Rattle.contracts.specs.Contract.{leafAt, listAt, readContract, readBranch, splitAt, weighedAt, revealAt};
 ghost use Rattle.contracts.specs.Counts.{Few, Added};
-ghost use Rattle.tables.specs.Entries.{tableLong};
+ghost use Rattle.tables.specs.Entries.{Spacious};
 
 // The words, each of one byte.
 const C: usize = b'c' as usize;
@@ -43,7 +43,7 @@ pub struct Limits {
 
 // `w`,p and `g`,d: a branch with a number below a limit.
 fn leaf(s: &[u8], st: St, h: Head, kind: usize, limit: usize, t: &mut [usize]) -> Read
-    requires { ⌜ tableLong ≤ length (now t) ⌝ }
+    requires { ⌜ Spacious (now s) (now t) ⌝ }
     requires { ⌜ HasRoom (now s) st ⌝ }
     requires { ⌜ st .branches < 1024 ⌝ }
     ensures { λ r. ⌜ Met (Added (now (s .entry)) 1 0 st) (leafAt (now (s .entry)) h kind limit (stateOf st (now (t .entry)))) r (now (t .exit)) ⌝ }
@@ -68,7 +68,7 @@ fn leaf(s: &[u8], st: St, h: Head, kind: usize, limit: usize, t: &mut [usize]) -
 
 // A secret of an `r`, whose list starts at `from`.
 fn list(s: &[u8], st: St, secrets: usize, from: usize, t: &mut [usize]) -> Read
-    requires { ⌜ tableLong ≤ length (now t) ⌝ }
+    requires { ⌜ Spacious (now s) (now t) ⌝ }
     requires { ⌜ HasRoom (now s) st ⌝ }
     requires { ⌜ st .listed < 8960 ⌝ }
     ensures { λ r. ⌜ Met (Added (now (s .entry)) 0 1 st) (listAt (now (s .entry)) secrets from (stateOf st (now (t .entry)))) r (now (t .exit)) ⌝ }
@@ -91,7 +91,7 @@ fn list(s: &[u8], st: St, secrets: usize, from: usize, t: &mut [usize]) -> Read
 
 // The n secrets of an `r`.
 fn list_all(s: &[u8], st: St, n: usize, secrets: usize, from: usize, t: &mut [usize]) -> Read
-    requires { ⌜ tableLong ≤ length (now t) ⌝ }
+    requires { ⌜ Spacious (now s) (now t) ⌝ }
     requires { ⌜ HasRoom (now s) st ⌝ }
     requires { ⌜ st .listed + n ≤ 8960 ⌝ }
     ensures { λ r. ⌜ Met (Added (now (s .entry)) 0 n st) (times n (listAt (now (s .entry)) secrets from) (stateOf st (now (t .entry)))) r (now (t .exit)) ⌝ }
@@ -119,7 +119,7 @@ pub fn contract(
     lim: Limits,
     t: &mut [usize],
 ) -> Read
-    requires { ⌜ tableLong ≤ length (now t) ⌝ }
+    requires { ⌜ Spacious (now s) (now t) ⌝ }
     requires { ⌜ Few (now s) lim st ⌝ }
     ensures { λ r. ⌜ Met (Few (now (s .entry)) lim) (readContract (now (s .entry)) lim depth parent weight (stateOf st (now (t .entry)))) r (now (t .exit)) ⌝ }
 {
@@ -156,7 +156,7 @@ pub fn contract(
 
 // A branch: signers, opening time, an action.
 fn branch(s: &[u8], st: St, depth: usize, node: usize, lim: Limits, t: &mut [usize]) -> Read
-    requires { ⌜ tableLong ≤ length (now t) ⌝ }
+    requires { ⌜ Spacious (now s) (now t) ⌝ }
     requires { ⌜ Few (now s) lim st ⌝ }
     ensures { λ r. ⌜ Met (Few (now (s .entry)) lim) (readBranch (now (s .entry)) lim (readContract (now (s .entry)) lim depth) node (stateOf st (now (t .entry)))) r (now (t .exit)) ⌝ }
 {
@@ -194,7 +194,7 @@ fn branch(s: &[u8], st: St, depth: usize, node: usize, lim: Limits, t: &mut [usi
 
 // `s`: its count of parts, and the parts.
 fn split(s: &[u8], st: St, h: Head, depth: usize, lim: Limits, t: &mut [usize]) -> Read
-    requires { ⌜ tableLong ≤ length (now t) ⌝ }
+    requires { ⌜ Spacious (now s) (now t) ⌝ }
     requires { ⌜ Few (now s) lim st ⌝ }
     requires { ⌜ st .branches < 1024 ⌝ }
     ensures { λ r. ⌜ Met (Few (now (s .entry)) lim) (splitAt (now (s .entry)) (readContract (now (s .entry)) lim depth) h (stateOf st (now (t .entry)))) r (now (t .exit)) ⌝ }
@@ -228,7 +228,7 @@ fn weighed(
     lim: Limits,
     t: &mut [usize],
 ) -> Read
-    requires { ⌜ tableLong ≤ length (now t) ⌝ }
+    requires { ⌜ Spacious (now s) (now t) ⌝ }
     requires { ⌜ Few (now s) lim st ⌝ }
     requires { ⌜ n ≤ 8 ⌝ }
     ensures { λ r. ⌜ Met (Few (now (s .entry)) lim) (weighedAt (now (s .entry)) (readContract (now (s .entry)) lim depth) parent 0 n (stateOf st (now (t .entry)))) r (now (t .exit)) ⌝ }
@@ -257,7 +257,7 @@ fn weighed(
 
 // `r`: how many secrets, the secrets, a condition and a contract.
 fn reveal(s: &[u8], st: St, h: Head, depth: usize, lim: Limits, t: &mut [usize]) -> Read
-    requires { ⌜ tableLong ≤ length (now t) ⌝ }
+    requires { ⌜ Spacious (now s) (now t) ⌝ }
     requires { ⌜ Few (now s) lim st ⌝ }
     requires { ⌜ st .branches < 1024 ⌝ }
     ensures { λ r. ⌜ Met (Few (now (s .entry)) lim) (revealAt (now (s .entry)) (lim .secrets) (readContract (now (s .entry)) lim depth) h (stateOf st (now (t .entry)))) r (now (t .exit)) ⌝ }

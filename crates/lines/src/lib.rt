@@ -29,7 +29,7 @@ ghost use Rattle.lines.specs.Counts.{Between, Defined};
 ghost use Rattle.lines.specs.Definition.{depositsAt, ownerAt, rootAt, ownedAt, defineAt, blank};
 ghost use Rattle.lines.specs.Sheet.{limited, sheetFrom, readSheet, answered, whenAccepted};
 ghost use Rattle.lines.specs.declared.LineOne.the-variants.{Counts};
-ghost use Rattle.tables.specs.Entries.{tableLong};
+ghost use Rattle.tables.specs.Entries.{Spacious};
 
 // The words, as numbers in base 256.
 const BITML: usize = (((b'b' as usize * 256 + b'i' as usize) * 256 + b't' as usize) * 256
@@ -86,7 +86,7 @@ pub fn line_one(s: &[u8]) -> LineOne
 
 // n deposits.
 fn deposits(s: &[u8], st: St, n: usize, t: &mut [usize]) -> Read
-    requires { ⌜ tableLong ≤ length (now t) ⌝ }
+    requires { ⌜ Spacious (now s) (now t) ⌝ }
     requires { ⌜ HasRoom (now s) st ⌝ }
     requires { ⌜ st .listed + n ≤ 8960 ⌝ }
     ensures { λ r. ⌜ Met (Added (now (s .entry)) 0 n st) (depositsAt (now (s .entry)) 0 n (stateOf st (now (t .entry)))) r (now (t .exit)) ⌝ }
@@ -111,7 +111,7 @@ fn deposits(s: &[u8], st: St, n: usize, t: &mut [usize]) -> Read
 
 // The owner of a secret.
 fn owner(s: &[u8], st: St, people: usize, t: &mut [usize]) -> Read
-    requires { ⌜ tableLong ≤ length (now t) ⌝ }
+    requires { ⌜ Spacious (now s) (now t) ⌝ }
     requires { ⌜ HasRoom (now s) st ⌝ }
     requires { ⌜ st .listed < 8960 ⌝ }
     ensures { λ r. ⌜ Met (Added (now (s .entry)) 0 1 st) (ownerAt (now (s .entry)) people (stateOf st (now (t .entry)))) r (now (t .exit)) ⌝ }
@@ -129,7 +129,7 @@ fn owner(s: &[u8], st: St, people: usize, t: &mut [usize]) -> Read
 
 // The owners of n secrets.
 fn owners(s: &[u8], st: St, n: usize, people: usize, t: &mut [usize]) -> Read
-    requires { ⌜ tableLong ≤ length (now t) ⌝ }
+    requires { ⌜ Spacious (now s) (now t) ⌝ }
     requires { ⌜ HasRoom (now s) st ⌝ }
     requires { ⌜ st .listed + n ≤ 8960 ⌝ }
     ensures { λ r. ⌜ Met (Added (now (s .entry)) 0 n st) (times n (ownerAt (now (s .entry)) people) (stateOf st (now (t .entry)))) r (now (t .exit)) ⌝ }
@@ -149,7 +149,7 @@ fn owners(s: &[u8], st: St, n: usize, people: usize, t: &mut [usize]) -> Read
 
 // A definition's contract, whose node is the next, and the end of the line.
 fn root(s: &[u8], st: St, first: usize, n: usize, z: Limits, t: &mut [usize]) -> Read
-    requires { ⌜ tableLong ≤ length (now t) ⌝ }
+    requires { ⌜ Spacious (now s) (now t) ⌝ }
     requires { ⌜ Between (now s) 24 st ⌝ }
     requires { ⌜ st .defs < 32 ⌝ }
     ensures { λ r. ⌜ Met (Defined (now (s .entry)) (st .defs + 1)) (rootAt (now (s .entry)) z first n (stateOf st (now (t .entry)))) r (now (t .exit)) ⌝ }
@@ -171,7 +171,7 @@ fn root(s: &[u8], st: St, first: usize, n: usize, z: Limits, t: &mut [usize]) ->
 
 // The count of secrets, their owners and the contract.
 fn owned(s: &[u8], st: St, first: usize, z: Limits, t: &mut [usize]) -> Read
-    requires { ⌜ tableLong ≤ length (now t) ⌝ }
+    requires { ⌜ Spacious (now s) (now t) ⌝ }
     requires { ⌜ Between (now s) 16 st ⌝ }
     requires { ⌜ st .defs < 32 ⌝ }
     ensures { λ r. ⌜ Met (Defined (now (s .entry)) (st .defs + 1)) (ownedAt (now (s .entry)) z first (stateOf st (now (t .entry)))) r (now (t .exit)) ⌝ }
@@ -189,7 +189,7 @@ fn owned(s: &[u8], st: St, first: usize, z: Limits, t: &mut [usize]) -> Read
 
 // A `def` line.
 fn define(s: &[u8], st: St, z: Limits, t: &mut [usize]) -> Read
-    requires { ⌜ tableLong ≤ length (now t) ⌝ }
+    requires { ⌜ Spacious (now s) (now t) ⌝ }
     requires { ⌜ Between (now s) 0 st ⌝ }
     requires { ⌜ (st .defs < 32) × (z .people ≤ 16) ⌝ }
     ensures { λ r. ⌜ Met (Defined (now (s .entry)) (st .defs + 1)) (defineAt (now (s .entry)) z (stateOf st (now (t .entry)))) r (now (t .exit)) ⌝ }
@@ -211,7 +211,7 @@ fn define(s: &[u8], st: St, z: Limits, t: &mut [usize]) -> Read
 
 // The n `def` lines after line 1.
 fn definitions(s: &[u8], at: usize, n: usize, z: Limits, t: &mut [usize]) -> Read
-    requires { ⌜ tableLong ≤ length (now t) ⌝ }
+    requires { ⌜ Spacious (now s) (now t) ⌝ }
     requires { ⌜ (at ≤ length (now s)) × (length (now s) ≤ 65536) ⌝ }
     requires { ⌜ (n ≤ 32) × (z .people ≤ 16) ⌝ }
     ensures { λ r. ⌜ Met (Defined (now (s .entry)) n) (times n (defineAt (now (s .entry)) z) (blank at)) r (now (t .exit)) ⌝ }
@@ -269,7 +269,7 @@ fn limit(s: &[u8], g: Read) -> Read
 
 // The `def` lines after line 1, for K participants, with the limit on bytes; then the table has its header.
 fn after_line_one(s: &[u8], k: usize, n: usize, at: usize, t: &mut [usize]) -> Got
-    requires { ⌜ tableLong ≤ length (now t) ⌝ }
+    requires { ⌜ Spacious (now s) (now t) ⌝ }
     requires { ⌜ (at ≤ length (now s)) × (length (now s) ≤ 65536) ⌝ }
     requires { ⌜ (1 ≤ k) × (k ≤ 16) × (1 ≤ n) × (n ≤ 32) ⌝ }
     ensures { λ r. ⌜ (answered r (now (t .exit)) ≡ sheetFrom (now (s .entry)) (Counts k n at)) × whenAccepted (now (s .entry)) r (now (t .exit)) ⌝ }
@@ -295,7 +295,7 @@ fn after_line_one(s: &[u8], k: usize, n: usize, at: usize, t: &mut [usize]) -> G
 
 // The sheet: line 1 and its `def` lines, read into the table, whatever it held.
 pub fn sheet(s: &[u8], t: &mut [usize]) -> Got
-    requires { ⌜ tableLong ≤ length (now t) ⌝ }
+    requires { ⌜ Spacious (now s) (now t) ⌝ }
     requires { ⌜ length (now s) ≤ 65536 ⌝ }
     ensures { λ r. ⌜ (answered r (now (t .exit)) ≡ readSheet (now (s .entry))) × whenAccepted (now (s .entry)) r (now (t .exit)) ⌝ }
 {

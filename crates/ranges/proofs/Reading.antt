@@ -1,5 +1,5 @@
 -- An accepted sheet has all its entries within their ranges. Assumes nothing.
-use Prim.Native.Nat.{ℕ, _≤_}
+use Prim.Native.Nat.{ℕ, _*_, _≤_}
 use mathlib.Core.Path.{_≡_, refl, sym, subst}
 use mathlib.Core.List.{List, []}
 use native.Mathlib.Omega.{arith}
@@ -51,9 +51,10 @@ all-ranged s K F p c a r h =
       cell = all-entry _ _ (g .sound .cells);
     }
 
--- of an accepted sheet: its entries are within their ranges, and it ends within its text and within the limit
+-- of an accepted sheet: its entries are within their ranges, each cell took two bytes, and it ends within its text and within the limit
 record Read (s : List ℕ) (K at : ℕ) (E : Entries) : Type 0 where
   ranged : Ranged K E
+  paid : 2 * length (E .cells) ≤ at
   inside : at ≤ length s
   short : at ≤ 32768
 
@@ -62,7 +63,7 @@ sheet-read s =
     accepted-ends s (Defines s) (Read s)
     (λ k n p c. blank-good s k n p (c .inside))
     (λ k n p i c l. define-good s k n (c .few-people) i)
-    (λ k n p c a r h. record { ranged = all-ranged s k n p c a r h; inside = r .state .inside; short = h (r .state .inside) })
+    (λ k n p c a r h. record { ranged = all-ranged s k n p c a r h; paid = r .state .paid; inside = r .state .inside; short = h (r .state .inside) })
 
 -- the theorem: what is accepted is within its ranges
 pub sheet-ranged : (s : List ℕ) (K at : ℕ) (E : Entries) → readSheet s ≡ accepted K at E → Ranged K E
@@ -71,3 +72,7 @@ sheet-ranged s K at E e = sheet-read s K at E e .ranged
 -- and ends within its text, of whose bytes it has 32,768 at the most
 pub sheet-inside : (s : List ℕ) (K at : ℕ) (E : Entries) → readSheet s ≡ accepted K at E → (at ≤ length s) × (at ≤ 32768)
 sheet-inside s K at E e = let r = sheet-read s K at E e in (r .inside, r .short)
+
+-- two of them for each cell
+pub sheet-paid : (s : List ℕ) (K at : ℕ) (E : Entries) → readSheet s ≡ accepted K at E → 2 * length (E .cells) ≤ length s
+sheet-paid s K at E e = let r = sheet-read s K at E e in omega (arith, r .paid, r .inside)

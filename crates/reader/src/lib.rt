@@ -12,7 +12,7 @@ ghost use mathlib.Core.Path.{_≡_};
 ghost use mathlib.Core.List.{List};
 ghost use Prim.Native.Nat.{ℕ, _≤_};
 ghost use lib.ListN.{length, getD};
-ghost use Rattle.tables.specs.Entries.{held, people, tableLong};
+ghost use Rattle.tables.specs.Entries.{held, people, cellsFrom, Spacious};
 ghost use Rattle.lines.specs.Sheet.{Sized, accepted};
 ghost use Rattle.requests.specs.declared.Part.the-variants as part;
 ghost use Rattle.reader.specs.Request.{refusedAt, fromPart, fromSheet, readRequest, answered};
@@ -44,7 +44,7 @@ fn refuse(s: &[u8], n: usize, at: usize) -> Request
 // The rows of `check`, which start at `from`.
 fn check_part(s: &[u8], p: usize, from: usize, t: &[usize], buffer: &mut [usize]) -> Request
     requires { ⌜ length (now s) ≤ 65536 ⌝ }
-    requires { ⌜ (tableLong ≤ length (now t)) × (getD (now t) 2 0 ≤ 512) ⌝ }
+    requires { ⌜ (cellsFrom ≤ length (now t)) × (getD (now t) 2 0 ≤ 512) ⌝ }
     requires { ⌜ 1536 ≤ length (now buffer) ⌝ }
     ensures { λ r. ⌜ answered r (now (t .entry)) (now (buffer .exit)) ≡ fromPart (now (s .entry)) (people (now (t .entry))) (held (now (t .entry))) (part.Check p from) ⌝ }
 {
@@ -71,7 +71,7 @@ fn play_part(s: &[u8], values: usize, from: usize, k: usize) -> Request
 // The last part of a request whose sheet ends at `at` and stands in the table.
 fn after_sheet(s: &[u8], at: usize, t: &[usize], buffer: &mut [usize]) -> Request
     requires { ⌜ length (now s) ≤ 65536 ⌝ }
-    requires { ⌜ (tableLong ≤ length (now t)) × Sized (now s) at (now t) ⌝ }
+    requires { ⌜ (cellsFrom ≤ length (now t)) × Sized (now s) at (now t) ⌝ }
     requires { ⌜ 1536 ≤ length (now buffer) ⌝ }
     ensures { λ r. ⌜ answered r (now (t .entry)) (now (buffer .exit)) ≡ fromSheet (now (s .entry)) (accepted (people (now (t .entry))) at (held (now (t .entry)))) ⌝ }
 {
@@ -91,7 +91,7 @@ fn after_sheet(s: &[u8], at: usize, t: &[usize], buffer: &mut [usize]) -> Reques
 // The request's bytes, read: its sheet into the table, the rows of a `check` into the buffer, whatever they held.
 pub fn read(s: &[u8], t: &mut [usize], buffer: &mut [usize]) -> Request
     requires { ⌜ length (now s) ≤ 65536 ⌝ }
-    requires { ⌜ tableLong ≤ length (now t) ⌝ }
+    requires { ⌜ Spacious (now s) (now t) ⌝ }
     requires { ⌜ 1536 ≤ length (now buffer) ⌝ }
     ensures { λ r. ⌜ answered r (now (t .exit)) (now (buffer .exit)) ≡ readRequest (now (s .entry)) ⌝ }
 {

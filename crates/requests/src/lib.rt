@@ -13,7 +13,7 @@ ghost use Prim.Native.Nat.{_+_, _≤_, _<_};
 ghost use lib.ListN.{length};
 ghost use Rattle.requests.specs.Part.{lastPartAt, makeAt, makeAllAt, whyAt, checkAt, playAt, participantAt, lastParticipantAt, valueAt, pastValueAt, pastValuesAt};
 ghost use Rattle.requests.specs.Rows.{countIn, rowAt, rowNumbersAt, noRoomAt, rowsOf, pastRows, row, rowsAt, RowsHeld};
-ghost use Rattle.tables.specs.Entries.{tableLong};
+ghost use Rattle.tables.specs.Entries.{cellsFrom};
 
 const MAKE: usize = ((b'm' as usize * 256 + b'a' as usize) * 256 + b'k' as usize) * 256
     + b'e' as usize;
@@ -240,7 +240,7 @@ pub fn last_part(s: &[u8], at: usize, people: usize, secrets: usize) -> Part
 
 // How many branches a node has.
 pub fn branch_count(t: &[usize], node: usize) -> usize
-    requires { ⌜ tableLong ≤ length (now t) ⌝ }
+    requires { ⌜ cellsFrom ≤ length (now t) ⌝ }
     requires { ⌜ node < 512 ⌝ }
     ensures { λ r. ⌜ r ≡ countIn (now (t .entry)) node ⌝ }
 {
@@ -249,7 +249,7 @@ pub fn branch_count(t: &[usize], node: usize) -> usize
 
 // A line `row`, after its word.
 fn row_numbers(s: &[u8], at: usize, t: &[usize], nodes: usize) -> RowLine
-    requires { ⌜ tableLong ≤ length (now t) ⌝ }
+    requires { ⌜ cellsFrom ≤ length (now t) ⌝ }
     requires { ⌜ nodes ≤ 512 ⌝ }
     ensures { λ r. ⌜ r ≡ rowNumbersAt (now (s .entry)) (countIn (now (t .entry))) nodes at ⌝ }
 {
@@ -281,7 +281,7 @@ fn row_numbers(s: &[u8], at: usize, t: &[usize], nodes: usize) -> RowLine
 
 // A line `row`, which starts at `at`.
 fn row_line(s: &[u8], at: usize, t: &[usize], nodes: usize) -> RowLine
-    requires { ⌜ tableLong ≤ length (now t) ⌝ }
+    requires { ⌜ cellsFrom ≤ length (now t) ⌝ }
     requires { ⌜ nodes ≤ 512 ⌝ }
     ensures { λ r. ⌜ r ≡ rowAt (now (s .entry)) (countIn (now (t .entry))) nodes at ⌝ }
 {
@@ -326,7 +326,7 @@ fn put_row(buffer: &mut [usize], i: usize, node: usize, branch: usize, rank: usi
 
 // The rows of `check`, whose lines start at `from`: how many, and the request's end. The buffer holds them, and past them what it held.
 pub fn rows(s: &[u8], from: usize, t: &[usize], nodes: usize, buffer: &mut [usize]) -> Got
-    requires { ⌜ tableLong ≤ length (now t) ⌝ }
+    requires { ⌜ cellsFrom ≤ length (now t) ⌝ }
     requires { ⌜ nodes ≤ 512 ⌝ }
     requires { ⌜ 1536 ≤ length (now buffer) ⌝ }
     ensures { λ r. ⌜ RowsHeld (rowsAt (now (s .entry)) (countIn (now (t .entry))) nodes from) r (now (buffer .entry)) (now (buffer .exit)) ⌝ }

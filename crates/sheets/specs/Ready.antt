@@ -1,15 +1,15 @@
 -- A table that was read whole, and an index of its entries. Assumes nothing.
-use Prim.Native.Nat.{ℕ, _≤_}
+use Prim.Native.Nat.{ℕ, _+_, _≤_}
 use mathlib.Core.List.{List}
 use lib.ListN.{length, drop}
-use Rattle.tables.specs.Entries.{Entries, held, people, tableLong}
+use Rattle.tables.specs.Entries.{Entries, held, people, cellsFrom}
 use Rattle.tables.specs.SheetOf.{nodeEntryAt, branchEntryAt}
 use Rattle.bucket.specs.Bucket.{Buckets, bucketOf}
 use Rattle.reader.specs.Promises.{Promises}
 
--- "The judging part knows a sheet only by what the reader promises"
+-- "The judging part knows a sheet only by what the reader promises". The table goes as far as the cells that it holds
 pub record Ready (t : List ℕ) : Type 0 where
-  pub long : tableLong ≤ length t
+  pub long : cellsFrom + length (held t .cells) ≤ length t
   pub promises : Promises (people t) (held t)
 
 -- From 0 where each node's branches start, from 513 the branches by node; from 1537 where each branch's parts start (and last those of no

@@ -15,7 +15,7 @@ use Rattle.bitml.proofs.Counting.{at-store}
 use Rattle.tables.specs.declared.St.{St}
 use Rattle.tables.specs.declared.Head.{Head}
 use Rattle.tables.specs.declared.Action.{Action}
-use Rattle.tables.specs.Entries.{held, firstOf, nodeIn, branchIn, defIn, listedIn, cellIn, tableLong}
+use Rattle.tables.specs.Entries.{held, firstOf, nodeIn, branchIn, defIn, listedIn, cellIn, cellsFrom}
 use Rattle.tables.specs.State.{nodesOf, branchesOf, defsOf, listedOf, cellsOf, stateOf, Fits, nodeEntry, branchEntry, defEntry, withNode, withBranch, withDef, withListed, withCell, moreNodes, moreBranches, moreDefs, moreListed, moreCells, among, since, Headed}
 
 -- ---- a run of stores
@@ -133,7 +133,7 @@ node-more m t d p w n l =
     (λ i k. node-same (sets t (8 + 4 * m) vs) t i λ j lo hi. sets-before vs t (8 + 4 * m) j (omega arith))
     (rw (p0, p1, p2, p3))
 
-pub put-node : (st : St) (t : List ℕ) (d p w n : ℕ) → Fits st → st .nodes < 512 → tableLong ≤ length t
+pub put-node : (st : St) (t : List ℕ) (d p w n : ℕ) → Fits st → st .nodes < 512 → cellsFrom ≤ length t
     → stateOf (moreNodes st) (sets t (8 + 4 * st .nodes) (d ∷ p ∷ w ∷ n ∷ [])) ≡ withNode (nodeEntry d p w n) (stateOf st t)
 put-node st t d p w n fits room long =
     rw (
@@ -161,7 +161,7 @@ branch-more m t h a l =
     (λ i k. branch-same (sets t (2056 + 8 * m) vs) t i λ j lo hi. sets-before vs t (2056 + 8 * m) j (omega arith))
     (rw (p0, p1, p2, p3, p4, p5, p6, p7))
 
-pub put-branch : (st : St) (t : List ℕ) (h : Head) (a : Action) → Fits st → st .branches < 1024 → tableLong ≤ length t
+pub put-branch : (st : St) (t : List ℕ) (h : Head) (a : Action) → Fits st → st .branches < 1024 → cellsFrom ≤ length t
     → stateOf (moreBranches st) (sets t (2056 + 8 * st .branches) ((h .node) ∷ (h .signers) ∷ (h .opens) ∷ (a .kind) ∷ (a .arg) ∷ (a .first) ∷ (a .count) ∷ (a .cond) ∷ [])) ≡ withBranch (branchEntry h a) (stateOf st t)
 put-branch st t h a fits room long =
     rw (
@@ -184,7 +184,7 @@ def-more m t r f n l =
     (λ i k. def-same (sets t (10248 + 3 * m) vs) t i λ j lo hi. sets-before vs t (10248 + 3 * m) j (omega arith))
     (rw (p0, p1, p2))
 
-pub put-def : (st : St) (t : List ℕ) (r f n : ℕ) → Fits st → st .defs < 32 → tableLong ≤ length t
+pub put-def : (st : St) (t : List ℕ) (r f n : ℕ) → Fits st → st .defs < 32 → cellsFrom ≤ length t
     → stateOf (moreDefs st) (sets t (10248 + 3 * st .defs) (r ∷ f ∷ n ∷ [])) ≡ withDef (defEntry r f n) (stateOf st t)
 put-def st t r f n fits room long =
     rw (
@@ -199,7 +199,7 @@ listed-more : (m : ℕ) (t : List ℕ) (v : ℕ) → 10345 + m ≤ length t → 
 unfolding listedOf
 listed-more m t v l = firstOf-more (listedIn (set t (10344 + m) v)) (listedIn t) m v (λ i k. getD-set-other t (10344 + m) (10344 + i) v 0 (omega arith)) (getD-set-same t (10344 + m) v 0 (omega arith))
 
-pub put-listed : (st : St) (t : List ℕ) (v : ℕ) → Fits st → st .listed < 8960 → tableLong ≤ length t
+pub put-listed : (st : St) (t : List ℕ) (v : ℕ) → Fits st → st .listed < 8960 → cellsFrom ≤ length t
     → stateOf (moreListed st) (sets t (10344 + st .listed) (v ∷ [])) ≡ withListed (v) (stateOf st t)
 put-listed st t v fits room long =
     rw (
@@ -214,7 +214,7 @@ cell-more : (m : ℕ) (t : List ℕ) (v : ℕ) → 19305 + m ≤ length t → ce
 unfolding cellsOf
 cell-more m t v l = firstOf-more (cellIn (set t (19304 + m) v)) (cellIn t) m v (λ i k. getD-set-other t (19304 + m) (19304 + i) v 0 (omega arith)) (getD-set-same t (19304 + m) v 0 (omega arith))
 
-pub put-cell : (st : St) (t : List ℕ) (v : ℕ) → Fits st → st .cells < 32768 → tableLong ≤ length t
+pub put-cell : (st : St) (t : List ℕ) (v : ℕ) → Fits st → st .cells < 32768 → cellsFrom + st .cells < length t
     → stateOf (moreCells st) (sets t (19304 + st .cells) (v ∷ [])) ≡ withCell (v) (stateOf st t)
 put-cell st t v fits room long =
     rw (
@@ -227,7 +227,7 @@ put-cell st t v fits room long =
 
 -- ---- the header lies before all sections, and tells how much of each is filled
 
-pub put-header : (k : ℕ) (st : St) (t : List ℕ) → tableLong ≤ length t → Headed k st t (sets t 0 (k ∷ (st .defs) ∷ (st .nodes) ∷ (st .branches) ∷ (st .listed) ∷ (st .cells) ∷ []))
+pub put-header : (k : ℕ) (st : St) (t : List ℕ) → cellsFrom ≤ length t → Headed k st t (sets t 0 (k ∷ (st .defs) ∷ (st .nodes) ∷ (st .branches) ∷ (st .listed) ∷ (st .cells) ∷ []))
 unfolding held nodesOf branchesOf defsOf listedOf cellsOf
 put-header k st t long =
     let vs : List ℕ = k ∷ (st .defs) ∷ (st .nodes) ∷ (st .branches) ∷ (st .listed) ∷ (st .cells) ∷ [] in

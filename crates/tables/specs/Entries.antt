@@ -1,7 +1,7 @@
 -- A sheet as the reader holds it: entries in the order of the text, and where their numbers stand in the table. Assumes nothing.
 use Prim.Native.Nat.{ℕ, zero, suc, _+_, _*_, _≤_}
 use mathlib.Core.List.{List, [], _∷_, _++_}
-use lib.ListN.{getD}
+use lib.ListN.{length, getD}
 
 -- "Each `c` is a node": its definition, the branch whose contract it is (1,024 for a root), its weight there, its count of branches
 pub record NodeEntry : Type 0 where
@@ -42,9 +42,17 @@ firstOf f (suc n) = firstOf f n ++ (f n ∷ [])
 
 -- ---- the layout: where entry i of each section stands in a table
 
--- how many numbers a table has
+-- where the cells start: every table has all that stands before them
+abbrev pub cellsFrom : ℕ
+cellsFrom = 19304
+
+-- how many numbers a table has that serves for any request: there are 32,768 cells
 abbrev pub tableLong : ℕ
 tableLong = 52072
+
+-- a table that serves for the request s: each cell stands for a field, which has two bytes or more
+abbrev pub Spacious : List ℕ → List ℕ → Type 0
+Spacious s t = 2 * cellsFrom + length s ≤ 2 * length t
 
 abbrev pub nodeIn : List ℕ → ℕ → NodeEntry
 nodeIn t i =

@@ -1,9 +1,9 @@
 // The one table that holds a sheet: its layout, and how much of it is filled.
 ghost use mathlib.Core.Path.{_≡_};
-ghost use Prim.Native.Nat.{_^_, _≤_, _<_};
+ghost use Prim.Native.Nat.{_+_, _^_, _≤_, _<_};
 ghost use lib.ListN.{length};
 ghost use Rattle.tables.specs.State.{stateOf, Fits, nodeEntry, branchEntry, defEntry, withNode, withBranch, withDef, withListed, withCell, moreNodes, moreBranches, moreDefs, moreListed, moreCells, listedOf, among, since, Headed};
-ghost use Rattle.tables.specs.Entries.{tableLong};
+ghost use Rattle.tables.specs.Entries.{cellsFrom};
 
 // How much of a sheet's table is filled, once it is read whole.
 pub struct Sheet {
@@ -173,7 +173,7 @@ pub fn put_node(
     weight: usize,
     count: usize,
 ) -> St
-    requires { ⌜ tableLong ≤ length (now t) ⌝ }
+    requires { ⌜ cellsFrom ≤ length (now t) ⌝ }
     requires { ⌜ Fits st ⌝ }
     requires { ⌜ st .nodes < 512 ⌝ }
     ensures { λ r. ⌜ (r ≡ moreNodes st) × (stateOf r (now (t .exit)) ≡ withNode (nodeEntry definition parent weight count) (stateOf st (now (t .entry)))) ⌝ }
@@ -195,7 +195,7 @@ pub fn put_node(
 
 // A branch more.
 pub fn put_branch(t: &mut [usize], st: St, h: Head, a: Action) -> St
-    requires { ⌜ tableLong ≤ length (now t) ⌝ }
+    requires { ⌜ cellsFrom ≤ length (now t) ⌝ }
     requires { ⌜ Fits st ⌝ }
     requires { ⌜ st .branches < 1024 ⌝ }
     ensures { λ r. ⌜ (r ≡ moreBranches st) × (stateOf r (now (t .exit)) ≡ withBranch (branchEntry h a) (stateOf st (now (t .entry)))) ⌝ }
@@ -221,7 +221,7 @@ pub fn put_branch(t: &mut [usize], st: St, h: Head, a: Action) -> St
 
 // A definition more.
 pub fn put_def(t: &mut [usize], st: St, root: usize, first: usize, secrets: usize) -> St
-    requires { ⌜ tableLong ≤ length (now t) ⌝ }
+    requires { ⌜ cellsFrom ≤ length (now t) ⌝ }
     requires { ⌜ Fits st ⌝ }
     requires { ⌜ st .defs < 32 ⌝ }
     ensures { λ r. ⌜ (r ≡ moreDefs st) × (stateOf r (now (t .exit)) ≡ withDef (defEntry root first secrets) (stateOf st (now (t .entry)))) ⌝ }
@@ -242,7 +242,7 @@ pub fn put_def(t: &mut [usize], st: St, root: usize, first: usize, secrets: usiz
 
 // A listed number more.
 pub fn put_listed(t: &mut [usize], st: St, v: usize) -> St
-    requires { ⌜ tableLong ≤ length (now t) ⌝ }
+    requires { ⌜ cellsFrom ≤ length (now t) ⌝ }
     requires { ⌜ Fits st ⌝ }
     requires { ⌜ st .listed < 8960 ⌝ }
     ensures { λ r. ⌜ (r ≡ moreListed st) × (stateOf r (now (t .exit)) ≡ withListed (v) (stateOf st (now (t .entry)))) ⌝ }
@@ -260,7 +260,7 @@ pub fn put_listed(t: &mut [usize], st: St, v: usize) -> St
 
 // A cell of a condition more.
 pub fn put_cell(t: &mut [usize], st: St, v: usize) -> St
-    requires { ⌜ tableLong ≤ length (now t) ⌝ }
+    requires { ⌜ cellsFrom + st .cells < length (now t) ⌝ }
     requires { ⌜ Fits st ⌝ }
     requires { ⌜ st .cells < 32768 ⌝ }
     ensures { λ r. ⌜ (r ≡ moreCells st) × (stateOf r (now (t .exit)) ≡ withCell (v) (stateOf st (now (t .entry)))) ⌝ }
@@ -278,7 +278,7 @@ pub fn put_cell(t: &mut [usize], st: St, v: usize) -> St
 
 // The header, once the sheet is read whole: how many participants, and how much of each section is filled.
 pub fn put_header(t: &mut [usize], participants: usize, st: St)
-    requires { ⌜ tableLong ≤ length (now t) ⌝ }
+    requires { ⌜ cellsFrom ≤ length (now t) ⌝ }
     ensures { λ _. ⌜ Headed participants st (now (t .entry)) (now (t .exit)) ⌝ }
 {
     t[Sheet::PARTICIPANTS_CELL] = participants;
@@ -291,7 +291,7 @@ pub fn put_header(t: &mut [usize], participants: usize, st: St)
 
 // Whether v is among the listed numbers from one place to another.
 pub fn is_listed(t: &[usize], from: usize, to: usize, v: usize) -> bool
-    requires { ⌜ tableLong ≤ length (now t) ⌝ }
+    requires { ⌜ cellsFrom ≤ length (now t) ⌝ }
     requires { ⌜ to ≤ 8960 ⌝ }
     ensures { λ r. ⌜ r ≡ among v (since from (listedOf to (now (t .entry)))) ⌝ }
 {

@@ -1,73 +1,13 @@
-use mathlib.Core.Path.{refl}
 use native.Mathlib.Omega.{arith}
-use Rattle.reader.specs.Request.{answered}
-use Rattle.promises.specs.Parts.{PartPromise}
-use Rattle.replies.proofs.Giving.{gives-long}
-use Rattle.checker.specs.Entry.{answerFor, judged}
-use Rattle.checker.proofs.Entry.{ready-by, ready-check, ready-all, judged-by}
 use borrow.Author.Needs.{needs}
 use Rattle.checker.proofs.judged.Statement.{statement}
 use Rattle.checker.proofs.judged.Tie as tie
 
-slice-aggregate-read : tie.Need-slice-aggregate-read
-slice-aggregate-read c = search needs
+slice-aggregate-judged-in : tie.Need-slice-aggregate-judged-in
+slice-aggregate-judged-in c = search needs
 
-read-requires : tie.Need-read-requires
-read-requires c κs = search needs
-
-enum-known-r : tie.Need-enum-known-r
-enum-known-r c = search needs
-
-slice-aggregate-make-for : tie.Need-slice-aggregate-make-for
-slice-aggregate-make-for c = search needs
-
-make-for-requires : tie.Need-make-for-requires
-unfolding answered PartPromise
-make-for-requires c κs = let k = ready-by _ _ _ _ (c .before .before .before .before .before .before .before .before .before .read .ensures) _ _ (c .before .before .before .before .r .given .1) refl (omega arith) in (k .0, (k .1, omega arith, omega arith))
-
-enum-told : tie.Need-enum-told
-enum-told c = search needs
-
-slice-aggregate-all-for : tie.Need-slice-aggregate-all-for
-slice-aggregate-all-for c = search needs
-
-all-for-requires : tie.Need-all-for-requires
-all-for-requires c κs = let k = ready-all _ _ _ _ (c .before .before .before .before .before .before .before .before .read .ensures) (c .before .before .before .enum-told .given .1) (omega arith) in (k .0, ((λ h. let w = k .1 _ _ (c .before .before .before .before .before .before .before .before .before .before .before .before .before .before .pre .1) h in omega (arith, w)), omega arith))
-
-enum-known-r-2 : tie.Need-enum-known-r-2
-enum-known-r-2 c = search needs
-
-slice-aggregate-why-for : tie.Need-slice-aggregate-why-for
-slice-aggregate-why-for c = search needs
-
-why-for-requires : tie.Need-why-for-requires
-unfolding answered PartPromise
-why-for-requires c κs = let k = ready-by _ _ _ _ (c .before .before .before .before .before .before .before .before .before .read .ensures) _ _ (c .before .before .before .before .r2 .given .1) refl (omega arith) in (k .0, (k .1, omega arith, omega arith))
-
-enum-known-r-3 : tie.Need-enum-known-r-3
-enum-known-r-3 c = search needs
-
-slice-aggregate-check-for : tie.Need-slice-aggregate-check-for
-slice-aggregate-check-for c = search needs
-
-check-for-requires : tie.Need-check-for-requires
-check-for-requires c κs = let k = ready-check _ _ _ _ (c .before .before .before .before .before .before .before .before .before .read .ensures) _ _ (c .before .before .before .before .r3 .given .1) (omega arith) (omega arith) in (k .0, ((k .1, omega arith), k .2))
-
-enum-known-r-4 : tie.Need-enum-known-r-4
-enum-known-r-4 c = search needs
-
-slice-aggregate-play-for : tie.Need-slice-aggregate-play-for
-slice-aggregate-play-for c = search needs
-
-play-for-requires : tie.Need-play-for-requires
-unfolding answered PartPromise
-play-for-requires c κs = let k = ready-by _ _ _ _ (c .before .before .before .before .before .before .before .before .before .read .ensures) _ _ (c .before .before .before .before .r4 .given .1) refl (omega arith) in (k .0, ((omega arith, omega arith), k .1))
-
-enum-known-r-5 : tie.Need-enum-known-r-5
-enum-known-r-5 c = search needs
-
-refuse-requires : tie.Need-refuse-requires
-refuse-requires c κs = search needs
+judged-in-requires : tie.Need-judged-in-requires
+judged-in-requires c κs = (c .before .before .before .before .before .before .before .pre .0, (c .before .before .before .before .before .before .before .pre .1, omega (arith, c .before .before .before .if1 .taken)))
 
 same-length : tie.Need-same-length
 same-length c = search needs
@@ -76,8 +16,13 @@ same-length-2 : tie.Need-same-length-2
 same-length-2 c = search needs
 
 returns : tie.Need-returns
-unfolding answered judged answerFor
-returns c = judged-by _ _ _ _ (c .before .before .before .before .before .before .before .before .before .before .before .before .before .before .read .ensures) _ _ (c .before .before .before .before .before .before .before .before .before .r .given .1) (gives-long (c .before .before .before .before .make-for .ensures) (omega arith) (omega arith))
+returns c = search needs
+
+slice-aggregate-judged-in-2 : tie.Need-slice-aggregate-judged-in-2
+slice-aggregate-judged-in-2 c = search needs
+
+judged-in-requires-2 : tie.Need-judged-in-requires-2
+judged-in-requires-2 c κs = (c .before .before .before .before .before .before .before .pre .0, (c .before .before .before .before .before .before .before .pre .1, omega (arith, c .before .before .before .before .before .before .before .pre .0 .0)))
 
 same-length-3 : tie.Need-same-length-3
 same-length-3 c = search needs
@@ -86,87 +31,19 @@ same-length-4 : tie.Need-same-length-4
 same-length-4 c = search needs
 
 returns-2 : tie.Need-returns-2
-unfolding answered judged answerFor
-returns-2 c = judged-by _ _ _ _ (c .before .before .before .before .before .before .before .before .before .before .before .before .before .read .ensures) _ _ (c .before .before .before .before .before .before .before .before .enum-told .given .1) (gives-long (c .before .before .before .before .all-for .ensures) (omega arith) (omega arith))
-
-same-length-5 : tie.Need-same-length-5
-same-length-5 c = search needs
-
-same-length-6 : tie.Need-same-length-6
-same-length-6 c = search needs
-
-returns-3 : tie.Need-returns-3
-unfolding answered judged answerFor
-returns-3 c = judged-by _ _ _ _ (c .before .before .before .before .before .before .before .before .before .before .before .before .before .before .read .ensures) _ _ (c .before .before .before .before .before .before .before .before .before .r2 .given .1) (gives-long (c .before .before .before .before .why-for .ensures) (omega arith) (omega arith))
-
-same-length-7 : tie.Need-same-length-7
-same-length-7 c = search needs
-
-same-length-8 : tie.Need-same-length-8
-same-length-8 c = search needs
-
-returns-4 : tie.Need-returns-4
-unfolding answered judged answerFor
-returns-4 c = judged-by _ _ _ _ (c .before .before .before .before .before .before .before .before .before .before .before .before .before .before .read .ensures) _ _ (c .before .before .before .before .before .before .before .before .before .r3 .given .1) (gives-long (c .before .before .before .before .check-for .ensures) (omega arith) (omega arith))
-
-same-length-9 : tie.Need-same-length-9
-same-length-9 c = search needs
-
-same-length-10 : tie.Need-same-length-10
-same-length-10 c = search needs
-
-returns-5 : tie.Need-returns-5
-unfolding answered judged answerFor
-returns-5 c = judged-by _ _ _ _ (c .before .before .before .before .before .before .before .before .before .before .before .before .before .before .read .ensures) _ _ (c .before .before .before .before .before .before .before .before .before .r4 .given .1) (gives-long (c .before .before .before .before .play-for .ensures) (omega arith) (omega arith))
-
-same-length-11 : tie.Need-same-length-11
-same-length-11 c = search needs
-
-same-length-12 : tie.Need-same-length-12
-same-length-12 c = search needs
-
-returns-6 : tie.Need-returns-6
-unfolding answered judged answerFor
-returns-6 c = judged-by _ _ _ _ (c .before .before .before .before .before .before .before .before .before .before .before .before .before .read .ensures) _ _ (c .before .before .before .before .before .before .before .before .r5 .given .1) (gives-long (c .before .before .before .before .refuse .ensures) (omega arith) (omega arith))
+returns-2 c = search needs
 
 pub judged-spec : {M : Type 1} → statement M
 judged-spec =
     tie.close
     (tie.spec
-    slice-aggregate-read
-    read-requires
-    enum-known-r
-    slice-aggregate-make-for
-    make-for-requires
-    enum-told
-    slice-aggregate-all-for
-    all-for-requires
-    enum-known-r-2
-    slice-aggregate-why-for
-    why-for-requires
-    enum-known-r-3
-    slice-aggregate-check-for
-    check-for-requires
-    enum-known-r-4
-    slice-aggregate-play-for
-    play-for-requires
-    enum-known-r-5
-    refuse-requires
+    slice-aggregate-judged-in
+    judged-in-requires
     same-length
     same-length-2
     returns
+    slice-aggregate-judged-in-2
+    judged-in-requires-2
     same-length-3
     same-length-4
-    returns-2
-    same-length-5
-    same-length-6
-    returns-3
-    same-length-7
-    same-length-8
-    returns-4
-    same-length-9
-    same-length-10
-    returns-5
-    same-length-11
-    same-length-12
-    returns-6)
+    returns-2)

@@ -1,4 +1,4 @@
-use Rattle.conditions.proofs.Laws.{ready-took, room, kept-stored, ready-kept, kept-kept, condition-bytes, condition-none, condition-more, clauses-t, clauses-and, clauses-not, clauses-two}
+use Rattle.conditions.proofs.Laws.{ready-took, room, pays, kept-stored, ready-kept, kept-kept, condition-bytes, condition-none, condition-more, clauses-t, clauses-and, clauses-not, clauses-two}
 use Rattle.steps.proofs.Laws.{passed, refused, yes′, no′, stop, called, call-refused, promised, also, took-word, done}
 use Rattle.conditions.specs.Condition.{conditionAt, conditionWith}
 use borrow.Author.Tests.{eq-eqb, ne-eqb}
@@ -126,7 +126,7 @@ condition-store-requires : (t : ℕ) → condition-lts.Need-store-requires (cond
 condition-store-requires t c κs =
     let c2 = c .before .before in let c3 = c2 .before in let c5 = c3 .before .before in let c7 = c5 .before .before in
     let c10 = c7 .before .before .before in
-    let k = took-word (c7 .letters .ensures) (c5 .g .given .1) (condition-bytes _ (λ h. c2 .if1 .left (c3 .condition-cell .ensures ∙ h))) in (c10 .pre .1 .0, (ready-took (c10 .pre .1 .1) k .fits, room (c10 .pre .1 .1) k))
+    let k = took-word (c7 .letters .ensures) (c5 .g .given .1) (condition-bytes _ (λ h. c2 .if1 .left (c3 .condition-cell .ensures ∙ h))) in (omega (arith, pays (c10 .pre .1 .1) k, c10 .pre .1 .0), (ready-took (c10 .pre .1 .1) k .fits, room (c10 .pre .1 .1) k))
 
 condition-enum-known-h : (t : ℕ) → condition-lts.Need-enum-known-h (condition-callees t) (condition-at t) condition.Post
 condition-enum-known-h t c = search needs

@@ -1,4 +1,4 @@
-use Rattle.conditions.proofs.Laws.{ready-took, room, kept-stored, ready-kept, kept-kept, expression-bytes, expression-none, expression-more, operands-k, operands-v, operands-two}
+use Rattle.conditions.proofs.Laws.{ready-took, room, pays, kept-stored, ready-kept, kept-kept, expression-bytes, expression-none, expression-more, operands-k, operands-v, operands-two}
 use Rattle.steps.proofs.Laws.{passed, refused, yes′, no′, stop, called, call-refused, promised, also, took-word}
 use Rattle.steps.specs.declared.Read.{Read}
 use Rattle.steps.specs.Steps.{Met}
@@ -96,7 +96,7 @@ expression-store-requires : (t : ℕ) → expression-lts.Need-store-requires (ex
 expression-store-requires t c κs =
     let c2 = c .before .before in let c3 = c2 .before in let c5 = c3 .before .before in let c7 = c5 .before .before in let c8 = c7 .before in
     let c11 = c8 .before .before .before in
-    let k = took-word (c7 .letters .ensures) (c5 .g .given .1) (expression-bytes _ (λ h. c2 .if1 .left (c3 .expression-cell .ensures ∙ h))) in (omega (arith, c8 .loop .inv .2, c11 .pre .1 .0), (ready-took (c8 .loop .inv .1) k .fits, room (c8 .loop .inv .1) k))
+    let k = took-word (c7 .letters .ensures) (c5 .g .given .1) (expression-bytes _ (λ h. c2 .if1 .left (c3 .expression-cell .ensures ∙ h))) in (omega (arith, pays (c8 .loop .inv .1) k, c8 .loop .inv .2, c11 .pre .1 .0), (ready-took (c8 .loop .inv .1) k .fits, room (c8 .loop .inv .1) k))
 
 expression-enum-known-h : (t : ℕ) → expression-lts.Need-enum-known-h (expression-callees t) (expression-at t) expression.Post Inv-loop μ-loop
 expression-enum-known-h t c = search needs

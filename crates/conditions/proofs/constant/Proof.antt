@@ -1,6 +1,7 @@
-use Rattle.conditions.proofs.Laws.{ready-took, room, kept-stored}
+use Rattle.conditions.proofs.Laws.{ready-took, room, pays, kept-stored}
 use Rattle.steps.proofs.Laws.{passed, refused, also, took-number}
 use Rattle.conditions.specs.Condition.{constantAt}
+use native.Mathlib.Omega.{arith}
 use borrow.Author.Needs.{needs}
 use Rattle.conditions.proofs.constant.Statement.{statement}
 use Rattle.conditions.proofs.constant.Tie as tie
@@ -23,7 +24,7 @@ returns c =
 store-requires : tie.Need-store-requires
 store-requires c κs =
     let c2 = c .before .before in let c4 = c2 .before .before in let c7 = c4 .before .before .before in
-    let k = took-number _ (c4 .num .ensures) (c2 .g .given .1) in (c7 .pre .0, (ready-took (c7 .pre .1) k .fits, room (c7 .pre .1) k))
+    let k = took-number _ (c4 .num .ensures) (c2 .g .given .1) in (omega (arith, pays (c7 .pre .1) k, c7 .pre .0), (ready-took (c7 .pre .1) k .fits, room (c7 .pre .1) k))
 
 same-length : tie.Need-same-length
 same-length c = search needs

@@ -1,7 +1,8 @@
-use Rattle.conditions.proofs.Laws.{ready-took, room, kept-stored}
+use Rattle.conditions.proofs.Laws.{ready-took, room, pays, kept-stored}
 use Rattle.steps.proofs.Laws.{passed, refused, yes′, no′, stop, also, took-number}
 use Rattle.conditions.specs.Condition.{secretAt}
 use mathlib.Core.Path.{sym, _∙_}
+use native.Mathlib.Omega.{arith}
 use borrow.Author.Needs.{needs}
 use Rattle.conditions.proofs.secret.Statement.{statement}
 use Rattle.conditions.proofs.secret.Tie as tie
@@ -24,12 +25,12 @@ returns c =
 is-listed-requires : tie.Need-is-listed-requires
 is-listed-requires c κs =
     let c2 = c .before .before in let c4 = c2 .before .before in let c7 = c4 .before .before .before in
-    let k = took-number _ (c4 .num .ensures) (c2 .g .given .1) in (c7 .pre .0, ready-took (c7 .pre .1) k .fits .listed-fit)
+    let k = took-number _ (c4 .num .ensures) (c2 .g .given .1) in (omega (arith, c7 .pre .0), ready-took (c7 .pre .1) k .fits .listed-fit)
 
 store-requires : tie.Need-store-requires
 store-requires c κs =
     let c5 = c .before .before .before .before .before in let c7 = c5 .before .before in let c10 = c7 .before .before .before in
-    let k = took-number _ (c7 .num .ensures) (c5 .g .given .1) in (c10 .pre .0, (ready-took (c10 .pre .1) k .fits, room (c10 .pre .1) k))
+    let k = took-number _ (c7 .num .ensures) (c5 .g .given .1) in (omega (arith, pays (c10 .pre .1) k, c10 .pre .0), (ready-took (c10 .pre .1) k .fits, room (c10 .pre .1) k))
 
 same-length : tie.Need-same-length
 same-length c = search needs

@@ -26,7 +26,7 @@ returns c =
 put-branch-requires : tie.Need-put-branch-requires
 put-branch-requires c κs =
     let c3 = c .before .before .before in let c5 = c3 .before .before in let c8 = c5 .before .before .before in
-    let k = took-number _ (c5 .num .ensures) (c3 .g .given .1) in (c8 .pre .0, (ready-took (c8 .pre .1 .0) k .fits, omega (arith, k .branches, c8 .pre .1 .1)))
+    let k = took-number _ (c5 .num .ensures) (c3 .g .given .1) in (omega (arith, c8 .pre .0), (ready-took (c8 .pre .1 .0) k .fits, omega (arith, k .branches, c8 .pre .1 .1)))
 
 same-length : tie.Need-same-length
 same-length c = search needs

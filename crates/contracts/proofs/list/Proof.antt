@@ -27,7 +27,7 @@ returns c =
 is-listed-requires : tie.Need-is-listed-requires
 is-listed-requires c κs =
     let c2 = c .before .before in let c4 = c2 .before .before in let c7 = c4 .before .before .before in
-    let k = took-number _ (c4 .num .ensures) (c2 .g .given .1) in (c7 .pre .0, ready-took (c7 .pre .1 .0) k .fits .listed-fit)
+    let k = took-number _ (c4 .num .ensures) (c2 .g .given .1) in (omega (arith, c7 .pre .0), ready-took (c7 .pre .1 .0) k .fits .listed-fit)
 
 same-length : tie.Need-same-length
 same-length c = search needs
@@ -50,7 +50,7 @@ returns-3 c =
 put-listed-requires : tie.Need-put-listed-requires
 put-listed-requires c κs =
     let c6 = c .before .before .before .before .before .before in let c8 = c6 .before .before in let c11 = c8 .before .before .before in
-    let k = took-number _ (c8 .num .ensures) (c6 .g .given .1) in (c11 .pre .0, (ready-took (c11 .pre .1 .0) k .fits, omega (arith, k .listed, c11 .pre .1 .1)))
+    let k = took-number _ (c8 .num .ensures) (c6 .g .given .1) in (omega (arith, c11 .pre .0), (ready-took (c11 .pre .1 .0) k .fits, omega (arith, k .listed, c11 .pre .1 .1)))
 
 same-length-3 : tie.Need-same-length-3
 same-length-3 c = search needs

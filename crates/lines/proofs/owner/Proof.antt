@@ -22,7 +22,7 @@ unfolding ownerAt
 returns c = refused _ _ _ _ (c .before .before .num .ensures) (c .enum-told .given .1)
 
 put-listed-requires : tie.Need-put-listed-requires
-put-listed-requires c κs = let k = took-number _ (c .before .before .before .before .before .num .ensures) (c .before .before .before .g .given .1) in (c .before .before .before .before .before .before .before .before .pre .0, (ready-took (c .before .before .before .before .before .before .before .before .pre .1 .0) k .fits, omega (arith, k .listed, c .before .before .before .before .before .before .before .before .pre .1 .1)))
+put-listed-requires c κs = let k = took-number _ (c .before .before .before .before .before .num .ensures) (c .before .before .before .g .given .1) in (omega (arith, c .before .before .before .before .before .before .before .before .pre .0), (ready-took (c .before .before .before .before .before .before .before .before .pre .1 .0) k .fits, omega (arith, k .listed, c .before .before .before .before .before .before .before .before .pre .1 .1)))
 
 same-length : tie.Need-same-length
 same-length c = search needs

@@ -7,7 +7,7 @@ use Rattle.lines.proofs.root.Statement.{statement}
 use Rattle.lines.proofs.root.Tie as tie
 
 put-def-requires : tie.Need-put-def-requires
-put-def-requires c κs = (c .before .before .before .pre .0, (between-ready _ _ _ (c .before .before .before .pre .1 .0) (omega arith) (c .before .before .before .pre .1 .1) .fits, c .before .before .before .pre .1 .1))
+put-def-requires c κs = (omega (arith, c .before .before .before .pre .0), (between-ready _ _ _ (c .before .before .before .pre .1 .0) (omega arith) (c .before .before .before .pre .1 .1) .fits, c .before .before .before .pre .1 .1))
 
 contract-requires : tie.Need-contract-requires
 contract-requires c κs = (omega (arith, c .before .before .before .put-def .kept .0, c .before .before .before .before .before .before .before .pre .0), few-root _ _ _ _ (c .before .before .before .before .before .before .before .pre .1 .0) (c .before .before .before .before .before .before .before .pre .1 .1) (c .before .before .before .put-def .ensures .0) refl)

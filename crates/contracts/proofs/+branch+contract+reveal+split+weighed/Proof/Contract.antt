@@ -75,7 +75,7 @@ put-node-requires t c κs =
     let c2 = c .before .before in let c4 = c2 .before .before in let c5 = c4 .before in let c10 = c5 .before .before .before .before .before in
     let c12 = c10 .before .before in let c15 = c12 .before .before .before in
     let k = took-number _ (c4 .num .ensures) (c2 .h .given .1) in
-    let f = few-took (few-took (c15 .pre .1 .1) (took-letters (c12 .letters .ensures) (c10 .g .given .1))) k in (c15 .pre .1 .0, (ready f .fits, omega (arith, k .nodes, c5 .if3 .left)))
+    let f = few-took (few-took (c15 .pre .1 .1) (took-letters (c12 .letters .ensures) (c10 .g .given .1))) k in (omega (arith, c15 .pre .1 .0), (ready f .fits, omega (arith, k .nodes, c5 .if3 .left)))
 
 pub loop-holds : (t : ℕ) → contract-lts.Need-loop-holds (contract-callees t) (contract-at t) contract.Post Inv-loop μ-loop
 loop-holds t c =

@@ -36,7 +36,7 @@ pub put-branch-requires : (t : ℕ) → split-lts.Need-put-branch-requires (spli
 put-branch-requires t c κs =
     let c3 = c .before .before .before in let c5 = c3 .before .before in let c8 = c5 .before .before .before in
     let k = took-number _ (c5 .num .ensures) (c3 .g .given .1) in
-    let f = few-took (c8 .pre .1 .1 .0) k in (c8 .pre .1 .0, (ready f .fits, omega (arith, k .branches, c8 .pre .1 .1 .1)))
+    let f = few-took (c8 .pre .1 .1 .0) k in (omega (arith, c8 .pre .1 .0), (ready f .fits, omega (arith, k .branches, c8 .pre .1 .1 .1)))
 
 pub weighed-requires : (t : ℕ) → split-lts.Need-weighed-requires (split-callees t) (split-at t) split.Post
 weighed-requires t c κs =

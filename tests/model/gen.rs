@@ -5,7 +5,7 @@
 //! beside `model` (it uses the model's reader, rows and ledger to make rows that are accepted and
 //! events that are taken).
 
-use super::model::{self, Action, Event, LastPart, Ledger, Request, Row, Sheet, Value};
+use super::model::{self, Action, Event, LastPart, Ledger, Request, Row, Sheet, Span, Value};
 
 // ---------------------------------------------------------------------------------------------
 // Chance
@@ -1221,7 +1221,7 @@ impl Generator {
         let mut ranks: Vec<Option<u64>> = vec![None; sheet.nodes.len()];
         let mut rows: Vec<[usize; 3]> = Vec::new();
         for node in (0..sheet.nodes.len()).rev() {
-            let branches = sheet.nodes[node].branches.len();
+            let branches = sheet.branches(node).len();
             // A node with no exit gets some branch, so that the fault is not always a missing row.
             let mut branch = match exits[node] {
                 Some(exit) => exit.branch,
@@ -1233,8 +1233,8 @@ impl Generator {
                     .other_branch(sheet, participant, node, &exits)
                     .unwrap_or(branch);
             }
-            let contracts = sheet.nodes[node].branches[branch].contracts();
-            let known = contracts.iter().filter_map(|contract| ranks[*contract]);
+            let contracts = sheet.contracts(&sheet.branches(node)[branch]);
+            let known = contracts.filter_map(|contract| ranks[contract]);
             let rank = self.raised(1 + known.sum::<u64>(), raise, by);
             ranks[node] = Some(rank);
             if wanted[node] {
@@ -1252,9 +1252,9 @@ impl Generator {
         node: usize,
         exits: &[Option<Row>],
     ) -> Option<usize> {
-        let other = self.random.below(sheet.nodes[node].branches.len());
-        let contracts = sheet.nodes[node].branches[other].contracts();
-        let leads_out = contracts.iter().all(|contract| exits[*contract].is_some());
+        let other = self.random.below(sheet.branches(node).len());
+        let mut contracts = sheet.contracts(&sheet.branches(node)[other]);
+        let leads_out = contracts.all(|contract| exits[contract].is_some());
         (leads_out && sheet.is_own(node, other, participant)).then_some(other)
     }
 
@@ -1304,7 +1304,7 @@ impl Generator {
                 rows.insert(other, row);
             }
             2 => {
-                let branches = sheet.nodes[rows[place][0]].branches.len();
+                let branches = sheet.branches(rows[place][0]).len();
                 let past = usize::from(self.random.chance(10));
                 rows[place][1] = self.random.below((branches + past).max(1));
             }
@@ -1341,12 +1341,12 @@ impl Generator {
     /// `play` with about so many events, most of them taken, and at most so many bytes in all.
     fn add_play(&mut self, draft: &mut Draft, sheet: &Sheet, events: usize, bytes: usize) {
         let mut head = vec![word("play")];
-        for _ in &sheet.definitions[0].owners {
+        for _ in sheet.definitions[0].owners.iter() {
             head.push(self.value());
         }
         draft.lines.push(head);
         let Ok(Request {
-            part: LastPart::Play { values, .. },
+            part: LastPart::Play(model::Play { values, .. }),
             ..
         }) = model::read(&draft.bytes())
         else {
@@ -1354,6 +1354,7 @@ impl Generator {
         };
         let mut play = Play {
             ledger: Ledger::stipulate(sheet, &values),
+            values,
             sheet,
             length: draft.length(),
             limits: 0,
@@ -1379,7 +1380,7 @@ impl Generator {
                 break;
             }
             if live.is_empty() || self.random.chance(wild) {
-                let event = self.wild_event(&play);
+                let event = self.wild_event(&mut play);
                 play.add(event);
             } else {
                 let contract = self.random.pick(&live);
@@ -1391,38 +1392,38 @@ impl Generator {
 
     /// The events that take a branch of a live contract: signatures, secrets, waiting, firing.
     fn pursue(&mut self, play: &mut Play, contract: usize, careless: usize) {
-        let node = &play.sheet.nodes[play.ledger.contracts[contract].node];
-        if node.branches.is_empty() {
+        let branches = play.sheet.branches(play.ledger.contracts[contract].node);
+        if branches.is_empty() {
             let event = self.wild_event(play);
             play.add(event);
             return;
         }
         // Prefer branches that make more contracts or sets, so that plays get long.
-        let mut number = self.random.below(node.branches.len());
+        let mut number = self.random.below(branches.len());
         for _ in 0..4 {
-            if let Action::Withdraw { .. } = node.branches[number].action {
-                number = self.random.below(node.branches.len());
+            if let Action::Withdraw { .. } = branches[number].action {
+                number = self.random.below(branches.len());
             }
         }
-        let branch = &node.branches[number];
+        let branch = &branches[number];
         let set = play.ledger.contracts[contract].set;
         let mut asked: Vec<Event> = Vec::new();
         for participant in 0..play.sheet.participants {
             let signed = play.ledger.contracts[contract].signed[number];
             if branch.is_signed_by(participant) && signed >> participant & 1 == 0 {
                 asked.push(Event::Sign {
-                    participant,
-                    contract,
-                    branch: number,
+                    participant: participant as u8,
+                    contract: contract as u32,
+                    branch: number as u32,
                 });
             }
         }
         if let Action::Reveal { secrets, .. } = &branch.action {
-            for secret in secrets {
-                if !play.ledger.sets[set][*secret].told {
+            for secret in secrets.iter() {
+                if !play.ledger.sets[set].is_told(usize::from(*secret)) {
                     asked.push(Event::Tell {
-                        set,
-                        secret: *secret,
+                        set: set as u32,
+                        secret: u32::from(*secret),
                     });
                 }
             }
@@ -1449,19 +1450,27 @@ impl Generator {
                 if self.random.chance(careless) {
                     count = self.random.between(0, 8);
                 }
-                let values = (0..count).map(|_| self.renewed_value()).collect();
                 Event::Renew {
-                    contract,
-                    branch: number,
-                    values,
+                    contract: contract as u32,
+                    branch: number as u32,
+                    values: self.renewed_values(play, count),
                 }
             }
             _ => Event::Fire {
-                contract,
-                branch: number,
+                contract: contract as u32,
+                branch: number as u32,
             },
         };
         play.add(last);
+    }
+
+    /// So many values of a renewal, put among those of the play.
+    fn renewed_values(&mut self, play: &mut Play, count: usize) -> Span {
+        let first = play.values.len();
+        for _ in 0..count {
+            play.values.push(self.renewed_value());
+        }
+        Span::new(first, count)
     }
 
     fn renewed_value(&mut self) -> Value {
@@ -1472,7 +1481,7 @@ impl Generator {
     }
 
     /// Some event, most often refused.
-    fn wild_event(&mut self, play: &Play) -> Event {
+    fn wild_event(&mut self, play: &mut Play) -> Event {
         let contracts = play.ledger.contracts.len();
         let contract = match self.random.below(10) {
             0 => contracts,
@@ -1482,13 +1491,14 @@ impl Generator {
             _ => contracts - 1 - self.random.below(contracts.min(4)),
         };
         let branches = match play.ledger.contracts.get(contract) {
-            Some(contract) => play.sheet.nodes[contract.node].branches.len(),
+            Some(contract) => play.sheet.branches(contract.node).len(),
             None => 1,
         };
         let branch = match self.random.below(12) {
             0 => self.random.pick(&[16, 255, 256, 65_535]),
             _ => self.random.between(0, branches),
         };
+        let (contract, branch) = (contract as u32, branch as u32);
         match self.random.below(8) {
             0 => {
                 let near = self.random.between(1, 20) as u64;
@@ -1505,7 +1515,7 @@ impl Generator {
                 Event::Wait { delay: far }
             }
             1 | 2 => Event::Sign {
-                participant: self.random.below(play.sheet.participants),
+                participant: self.random.below(play.sheet.participants) as u8,
                 contract,
                 branch,
             },
@@ -1515,19 +1525,18 @@ impl Generator {
                     0 => self.random.pick(&[sets, 31, 32, 65_535]),
                     _ => self.random.below(sets),
                 };
-                let secrets = play.ledger.sets.get(set).map_or(1, |set| set.len());
+                let secrets = play.ledger.sets.get(set).map_or(1, |set| set.values.len());
                 Event::Tell {
-                    set,
-                    secret: self.random.between(0, secrets),
+                    set: set as u32,
+                    secret: self.random.between(0, secrets) as u32,
                 }
             }
             4 => {
                 let count = self.random.between(0, 8);
-                let values = (0..count).map(|_| self.renewed_value()).collect();
                 Event::Renew {
                     contract,
                     branch,
-                    values,
+                    values: self.renewed_values(play, count),
                 }
             }
             _ => Event::Fire { contract, branch },
@@ -1829,6 +1838,8 @@ impl Iterator for Generator {
 /// A play as it is put together: the model's ledger goes along.
 struct Play<'s> {
     ledger: Ledger,
+    /// Those of stipulation, then those of renewals.
+    values: Vec<Value>,
     sheet: &'s Sheet,
     /// Bytes of the whole request so far.
     length: usize,
@@ -1840,11 +1851,11 @@ struct Play<'s> {
 impl Play<'_> {
     fn add(&mut self, event: Event) {
         // A refused event leaves the ledger the same.
-        let answer = self.ledger.step(self.sheet, &event);
+        let answer = self.ledger.step(self.sheet, event, &self.values);
         if answer == Err(19) && !matches!(event, Event::Wait { .. }) {
             self.limits += 1;
         }
-        let line = event_line(&event);
+        let line = event_line(event, &self.values);
         self.length += line_length(&line);
         self.lines.push(line);
     }
@@ -1852,21 +1863,21 @@ impl Play<'_> {
 
 /// Does some branch renew?
 fn renews(sheet: &Sheet) -> bool {
-    let mut branches = sheet.nodes.iter().flat_map(|node| &node.branches);
+    let mut branches = sheet.all_branches().iter();
     branches.any(|branch| matches!(branch.action, Action::Renew { .. }))
 }
 
-fn event_line(event: &Event) -> Vec<Field> {
-    let index = |value: &usize| number(*value as u64, Role::Index);
+fn event_line(event: Event, values: &[Value]) -> Vec<Field> {
+    let index = |value: u32| number(u64::from(value), Role::Index);
     match event {
-        Event::Wait { delay } => vec![word("wait"), number(*delay, Role::Delay)],
+        Event::Wait { delay } => vec![word("wait"), number(delay, Role::Delay)],
         Event::Sign {
             participant,
             contract,
             branch,
         } => vec![
             word("sign"),
-            number(*participant as u64, Role::Participant),
+            number(u64::from(participant), Role::Participant),
             index(contract),
             index(branch),
         ],
@@ -1875,10 +1886,10 @@ fn event_line(event: &Event) -> Vec<Field> {
         Event::Renew {
             contract,
             branch,
-            values,
+            values: given,
         } => {
             let mut line = vec![word("renew"), index(contract), index(branch)];
-            for value in values {
+            for value in given.of(values) {
                 let text = match value {
                     Value::Number(number) => number.to_string(),
                     Value::IllFormed => "x".to_string(),

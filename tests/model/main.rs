@@ -31,7 +31,7 @@ use std::time::{Duration, Instant};
 use cases::{chain, sheet_up_to, sixteen_parties, Case, D, R, T};
 use generate::{Generator, Random};
 use model::sheets::{self, read_sheet, write_sheet};
-use model::{Action, Condition, Expression, LastPart, Ledger, Reply, Row, Sheet, Step};
+use model::{Action, Condition, Few, LastPart, Ledger, Reply, Row, Sheet, Step, Term};
 use whys::Whys;
 
 /// Counts the cases and keeps those that failed.
@@ -77,25 +77,26 @@ fn sheet_as_read(cases: &mut Cases) {
     let sheet = &request.sheet;
     cases.holds("line of check", request.line == 3);
     cases.holds("participants", sheet.participants == 2);
-    cases.holds("deposits", sheet.definitions[0].deposits == [100, 0]);
+    cases.holds("deposits", sheet.deposits(0) == [100, 0]);
     cases.holds(
         "owners",
-        sheet.definitions[0].owners == [0] && sheet.definitions[0].root == 0,
+        *sheet.definitions[0].owners == [0] && sheet.definitions[0].root == 0,
     );
     cases.holds(
         "depths",
         sheet.nodes[0].depth == 1 && sheet.nodes[1].depth == 2,
     );
-    let branches = &sheet.nodes[0].branches;
-    cases.holds(
-        "branch 0",
-        branches[0].action
-            == Action::Reveal {
-                secrets: vec![0],
-                condition: Condition::True,
-                next: 1,
-            },
-    );
+    let branches = sheet.branches(0);
+    let revealed = match branches[0].action {
+        Action::Reveal {
+            secrets,
+            condition,
+            next,
+        } => Some((secrets, sheet.condition(condition), next)),
+        _ => None,
+    };
+    let due = (Few::from(&[0][..]), Condition(&[Term::True]), 1);
+    cases.holds("branch 0", revealed == Some(due));
     cases.holds(
         "branch 1",
         branches[1].opens == 500 && branches[1].action == Action::Withdraw { to: 1 },
@@ -115,20 +116,21 @@ fn sheet_as_read(cases: &mut Cases) {
     let nested =
         "bitml,1,1\ndef,1,1,0,c,1,0,0,r,1,0,and,not,t,lt,add,v,0,k,1,sub,k,2,v,0,c,0\nmake,0\n";
     let condition = model::read(nested.as_bytes()).ok().and_then(|request| {
-        match &request.sheet.nodes[0].branches[0].action {
-            Action::Reveal { condition, .. } => Some(condition.clone()),
+        match request.sheet.branches(0)[0].action {
+            Action::Reveal { condition, .. } => Some(request.sheet.condition(condition).0.to_vec()),
             _ => None,
         }
     });
-    let (v, k) = (Expression::Secret, Expression::Constant);
-    let due = Condition::And(
-        Box::new(Condition::Not(Box::new(Condition::True))),
-        Box::new(Condition::Less(
-            Expression::Add(Box::new(v(0)), Box::new(k(1))),
-            Expression::Subtract(Box::new(k(2)), Box::new(v(0))),
-        )),
-    );
-    cases.holds("nested condition", condition == Some(due));
+    let (v, k) = (Term::Secret, Term::Constant);
+    let (not_t, sums) = ([Term::Not, Term::True], [Term::Add, v(0), k(1)]);
+    let due = [
+        &[Term::And][..],
+        &not_t,
+        &[Term::Less],
+        &sums,
+        &[Term::Subtract, k(2), v(0)],
+    ];
+    cases.holds("nested condition", condition == Some(due.concat()));
 }
 
 /// A small list of cases.
@@ -209,7 +211,7 @@ fn least_steps(sheet: &Sheet, participant: usize, from: usize) -> Option<u64> {
         }
         for place in 0..list.len() {
             let node = list[place];
-            for (number, branch) in sheet.nodes[node].branches.iter().enumerate() {
+            for (number, branch) in sheet.branches(node).iter().enumerate() {
                 if sheet.is_own(node, number, participant) {
                     let mut after = list.clone();
                     after.remove(place);
@@ -305,7 +307,7 @@ fn properties(cases: &mut Cases, seed: u64, count: usize) {
                 for _ in 0..20 {
                     let mut tried = Vec::new();
                     for node in 0..sheet.nodes.len() {
-                        let branches = sheet.nodes[node].branches.len();
+                        let branches = sheet.branches(node).len();
                         if branches > 0 && !random.chance(10) {
                             let branch = random.below(branches);
                             tried.push(Row {
@@ -335,20 +337,20 @@ fn properties(cases: &mut Cases, seed: u64, count: usize) {
             let place = random.below(list.len());
             let node = list.swap_remove(place);
             cases.holds("a run stays among the reached nodes", reached[node]);
-            let branches = &sheet.nodes[node].branches;
+            let branches = sheet.branches(node);
             if !branches.is_empty() {
                 let number = random.below(branches.len());
                 list.extend(sheet.replaced_by(&branches[number]));
             }
         }
         // Nothing is lost or made: balances and payments are the deposits taken.
-        if let LastPart::Play { values, events } = &request.part {
+        if let LastPart::Play(play) = &request.part {
             plays += 1;
-            let mut ledger = Ledger::stipulate(sheet, values);
+            let mut ledger = Ledger::stipulate(sheet, play.stipulated.of(&play.values));
             let mut whole = true;
-            for event in events {
+            for event in &play.events {
                 let before = ledger.clone();
-                let answer = ledger.step(sheet, event);
+                let answer = ledger.step(sheet, *event, &play.values);
                 let live: u64 = ledger
                     .contracts
                     .iter()
@@ -397,7 +399,7 @@ fn steps_from(sheet: &Sheet, list: &[usize]) -> Vec<(Vec<usize>, Step)> {
     let mut found = Vec::new();
     for place in 0..list.len() {
         let node = list[place];
-        for (number, branch) in sheet.nodes[node].branches.iter().enumerate() {
+        for (number, branch) in sheet.branches(node).iter().enumerate() {
             let mut next = list.to_vec();
             next.remove(place);
             next.extend(sheet.replaced_by(branch));
@@ -411,18 +413,21 @@ fn steps_from(sheet: &Sheet, list: &[usize]) -> Vec<(Vec<usize>, Step)> {
 /// Does this cause apply to a branch, as the request words it?
 fn applies(sheet: &Sheet, participant: usize, step: Step, cause: u32) -> bool {
     let node = &sheet.nodes[step.0];
-    let branch = &node.branches[step.1];
+    let branch = &sheet.branches(step.0)[step.1];
     let owners = &sheet.definitions[node.definition].owners;
     let signs = |who: usize| branch.signers >> who & 1 == 1;
     match (cause, &branch.action) {
         (1, _) => (0..sheet.participants).any(|who| who != participant && signs(who)),
         (2, Action::Reveal { secrets, .. }) => {
-            secrets.iter().any(|secret| owners[*secret] != participant)
+            let owner = |secret: &u8| usize::from(owners[usize::from(*secret)]);
+            secrets.iter().any(|secret| owner(secret) != participant)
         }
-        (3, Action::Reveal { condition, .. }) => condition.holds(&|_| None) != Some(true),
+        (3, Action::Reveal { condition, .. }) => {
+            sheet.condition(*condition).holds(|_| None) != Some(true)
+        }
         (4, action) => matches!(action, Action::Renew { .. }),
         (5, _) => {
-            let mut contracts = branch.contracts().into_iter();
+            let mut contracts = sheet.contracts(branch);
             contracts.any(|contract| least_steps(sheet, participant, contract).is_none())
         }
         _ => false,
@@ -445,7 +450,7 @@ fn why_holds(sheet: &Sheet, text: &str, participant: usize) -> Option<bool> {
     let steps = run
         .iter()
         .map(|(node, branch)| format!("step,{node},{branch}"));
-    let causes = (0..sheet.nodes[frozen].branches.len()).map(|branch| {
+    let causes = (0..sheet.branches(frozen).len()).map(|branch| {
         let cause = (1..=5).find(|cause| applies(sheet, participant, (frozen, branch), *cause));
         format!("branch,{branch},{}", cause.unwrap_or(0))
     });
@@ -501,10 +506,7 @@ fn both_ways(cases: &mut Cases, seed: u64, count: usize) {
         }
         read += 1;
         let back = sheets::text_of(&cells);
-        cases.holds(
-            "what was read is written",
-            back.as_deref().map(str::as_bytes) == Some(&text),
-        );
+        cases.holds("what was read is written", back.as_deref() == Some(&text));
         let mut request = text.clone();
         request.extend_from_slice(b"make,0\n");
         let sheet = model::read(&request).ok().map(|request| request.sheet);
@@ -520,7 +522,7 @@ fn both_ways(cases: &mut Cases, seed: u64, count: usize) {
             cells[place] = random.pick(&[old + 1, old.wrapping_sub(1), 0, 1, 2, old ^ 4]);
             if let Some(text) = sheets::text_of(&cells) {
                 written += 1;
-                let answer = read_sheet(text.as_bytes(), &mut again);
+                let answer = read_sheet(&text, &mut again);
                 cases.holds("what was written is read", answer.length == text.len());
                 cases.holds("to the same table", again == cells);
             }
@@ -537,10 +539,11 @@ fn limits_reached(bytes: &[u8]) -> Vec<&'static str> {
         return Vec::new();
     };
     let sheet = &request.sheet;
-    let branches = || sheet.nodes.iter().flat_map(|node| &node.branches);
-    let longest = branches()
-        .filter_map(|branch| match &branch.action {
-            Action::Reveal { condition, .. } => Some(condition.fields()),
+    let branches = sheet.all_branches();
+    let longest = branches
+        .iter()
+        .filter_map(|branch| match branch.action {
+            Action::Reveal { condition, .. } => Some(sheet.condition(condition).fields()),
             _ => None,
         })
         .max();
@@ -549,17 +552,16 @@ fn limits_reached(bytes: &[u8]) -> Vec<&'static str> {
         .take(1 + sheet.definitions.len())
         .map(|line| line.len())
         .sum();
-    let most =
-        |definition: &model::Definition| definition.deposits.iter().sum::<u64>() == model::SATOSHI;
+    let most = |definition: usize| sheet.deposits(definition).iter().sum::<u64>() == model::SATOSHI;
     let mut reached = vec![
         ("16 participants", sheet.participants == 16),
         ("32 definitions", sheet.definitions.len() == 32),
         ("512 nodes", sheet.nodes.len() == 512),
-        ("1,024 branches", branches().count() == 1_024),
+        ("1,024 branches", branches.len() == 1_024),
         ("32 deep", sheet.nodes.iter().any(|node| node.depth == 32)),
         (
             "16 branches",
-            sheet.nodes.iter().any(|node| node.branches.len() == 16),
+            (0..sheet.nodes.len()).any(|node| sheet.branches(node).len() == 16),
         ),
         (
             "8 secrets",
@@ -571,7 +573,7 @@ fn limits_reached(bytes: &[u8]) -> Vec<&'static str> {
         ("64 fields in a condition", longest == Some(64)),
         (
             "all deposits in one definition",
-            sheet.definitions.iter().any(most),
+            (0..sheet.definitions.len()).any(most),
         ),
         ("32,768 bytes of sheet", sheet_bytes == 32_768),
         ("65,536 bytes", bytes.len() == 65_536),
@@ -580,10 +582,10 @@ fn limits_reached(bytes: &[u8]) -> Vec<&'static str> {
         LastPart::Make { .. } | LastPart::Why { .. } => {}
         LastPart::MakeAll => reached.push(("16 parties", sheet.participants == 16)),
         LastPart::Check { rows, .. } => reached.push(("512 rows", rows.len() == 512)),
-        LastPart::Play { values, events } => {
-            let mut ledger = Ledger::stipulate(sheet, values);
-            for event in events {
-                let _ = ledger.step(sheet, event);
+        LastPart::Play(play) => {
+            let mut ledger = Ledger::stipulate(sheet, play.stipulated.of(&play.values));
+            for event in &play.events {
+                let _ = ledger.step(sheet, *event, &play.values);
             }
             reached.push(("time 4,294,967,295", ledger.time == model::TIME));
             reached.push(("256 contracts made", ledger.contracts.len() == 256));

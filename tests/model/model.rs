@@ -2,19 +2,21 @@
 //! (docs/changes), in plain Rust.
 //!
 //! It is written straight from the documents, in the order of document 01, and shares no code
-//! with the verified program.  It looks for plainness, not for speed: owned trees, growing lists
-//! and no tricks.  The tests compare the verified program with it.
+//! with the verified program.  The tests compare the verified program with it, and the benchmark
+//! measures against it, so it is quick as well as plain: every byte of a request is looked at once or
+//! twice, a sheet stands in a few flat lists, and an answer is written straight into the buffers.
+//! Nothing is allocated for a single node, branch, field or event.
 //!
 //! * [`read`] is the reader: bytes to a [`Request`], or the first [`Refusal`].
 //! * [`exits`], [`reached`], [`make`], [`check`], [`run_to`] and [`cause`] are the judging part.
 //! * [`Ledger`] is the program's ledger; [`Ledger::step`] is one event.
-//! * [`judge`] is the whole program: bytes to what it prints, and the row buffer; [`judge_lent`] is
-//!   the same for buffers of any length, and [`call`] fills them.
+//! * [`call`] is the whole program: bytes to what it prints, and the row buffer, both lent;
+//!   [`judge_lent`] is the same with buffers of its own, and [`judge`] with the longest ones.
 //! * [`sheets`] has a sheet as a table, from its text and back.
 //!
-//! `rule!`, `limit!`, `lower!`, `cause!`, `number!` and `asking!` are of wrong.rs.  What comes first in
-//! a `rule!` is the rule; what follows it are wrong ones by name, which only the test of the cases turns
-//! on.
+//! `rule!`, `lowest!`, `limit!`, `lower!`, `cause!`, `number!` and `asking!` are of wrong.rs.  What comes
+//! first in a `rule!` is the rule; what follows it are wrong ones by name, which only the test of the
+//! cases turns on.
 
 #[macro_use]
 #[path = "wrong.rs"]
@@ -25,6 +27,7 @@ pub mod sheets;
 use sheets::Answer;
 use std::cmp::Reverse;
 use std::collections::VecDeque;
+use std::ops::Deref;
 use wrong::Operand;
 
 // ---------------------------------------------------------------------------------------------
@@ -86,6 +89,56 @@ fn nowhere(number: u32) -> Refusal {
     }
 }
 
+/// Up to 8 items, in the place where they are used.
+#[derive(Clone, Copy, Debug, Default, PartialEq, Eq)]
+pub struct Few<T> {
+    items: [T; 8],
+    count: u8,
+}
+
+impl<T> Few<T> {
+    fn push(&mut self, item: T) {
+        self.items[usize::from(self.count)] = item;
+        self.count += 1;
+    }
+}
+
+impl<T> Deref for Few<T> {
+    type Target = [T];
+
+    fn deref(&self) -> &[T] {
+        &self.items[..usize::from(self.count)]
+    }
+}
+
+impl<T: Copy + Default> From<&[T]> for Few<T> {
+    fn from(items: &[T]) -> Few<T> {
+        let mut few = Few::default();
+        items.iter().for_each(|item| few.push(*item));
+        few
+    }
+}
+
+/// Where in a list some neighbours stand.
+#[derive(Clone, Copy, Debug, Default, PartialEq, Eq)]
+pub struct Span {
+    first: u16,
+    count: u16,
+}
+
+impl Span {
+    pub fn new(first: usize, count: usize) -> Span {
+        Span {
+            first: first as u16,
+            count: count as u16,
+        }
+    }
+
+    pub fn of<T>(self, list: &[T]) -> &[T] {
+        &list[usize::from(self.first)..][..usize::from(self.count)]
+    }
+}
+
 /// A request as read: the sheet, its last part, and the line on which the last part begins.
 #[derive(Clone, Debug, PartialEq, Eq)]
 pub struct Request {
@@ -95,52 +148,65 @@ pub struct Request {
     pub line: usize,
 }
 
-#[derive(Clone, Debug, PartialEq, Eq)]
+#[derive(Clone, Debug, Default, PartialEq, Eq)]
 pub struct Sheet {
     pub participants: usize,
     pub definitions: Vec<Definition>,
     /// All nodes of all definitions, in order of appearance.  The contracts that a node's
     /// branches hold appear after the node, so their numbers are higher than its own.
     pub nodes: Vec<Node>,
+    /// The deposits of all definitions, one for each participant, in satoshi.
+    deposits: Vec<u64>,
+    /// The branches of all nodes, those of one node side by side.
+    branches: Vec<Branch>,
+    /// The parts of all splits, those of one split side by side.
+    parts: Vec<Part>,
+    /// All conditions, one behind the other.
+    terms: Vec<Term>,
 }
 
-#[derive(Clone, Debug, PartialEq, Eq)]
+#[derive(Clone, Copy, Debug, PartialEq, Eq)]
 pub struct Definition {
-    /// One deposit for each participant, in satoshi.
-    pub deposits: Vec<u64>,
     /// The owner of each secret.
-    pub owners: Vec<usize>,
+    pub owners: Few<u8>,
     /// The node of its contract.
     pub root: usize,
 }
 
-#[derive(Clone, Debug, PartialEq, Eq)]
+#[derive(Clone, Copy, Debug, PartialEq, Eq)]
 pub struct Node {
     /// The definition that the node stands in; secrets are numbered within it.
     pub definition: usize,
     /// 1 for a root.
     pub depth: usize,
-    pub branches: Vec<Branch>,
+    branches: Span,
 }
 
-#[derive(Clone, Debug, PartialEq, Eq)]
+#[derive(Clone, Copy, Debug, PartialEq, Eq)]
 pub struct Branch {
     /// The sum of 2^p over those who must sign.
-    pub signers: u64,
+    pub signers: u32,
     pub opens: u64,
     pub action: Action,
 }
 
-#[derive(Clone, Debug, PartialEq, Eq)]
+/// A branch that is still to be read.
+const DUE: Branch = Branch {
+    signers: 0,
+    opens: 0,
+    action: Action::Withdraw { to: 0 },
+};
+
+#[derive(Clone, Copy, Debug, PartialEq, Eq)]
 pub enum Action {
     /// `w`: pays the balance to a participant.
     Withdraw { to: usize },
     /// `s`: parts the balance by weight.
-    Split { parts: Vec<Part> },
+    Split { parts: Span },
     /// `r`: needs secrets told and a condition true, then goes on as one contract.
     Reveal {
-        secrets: Vec<usize>,
-        condition: Condition,
+        secrets: Few<u8>,
+        condition: Span,
         next: usize,
     },
     /// `g`: renews as a definition.
@@ -148,27 +214,53 @@ pub enum Action {
 }
 
 /// A part of a split: its weight and the node of its contract.
-#[derive(Clone, Copy, Debug, PartialEq, Eq)]
+#[derive(Clone, Copy, Debug, Default, PartialEq, Eq)]
 pub struct Part {
     pub weight: u64,
     pub node: usize,
 }
 
-#[derive(Clone, Debug, PartialEq, Eq)]
-pub enum Condition {
+/// A word of a condition or of an expression, with the number that goes with it; what it asks for
+/// follows it.
+#[derive(Clone, Copy, Debug, PartialEq, Eq)]
+pub enum Term {
     True,
-    And(Box<Condition>, Box<Condition>),
-    Not(Box<Condition>),
-    Equal(Expression, Expression),
-    Less(Expression, Expression),
+    And,
+    Not,
+    Equal,
+    Less,
+    Constant(u32),
+    Secret(u8),
+    Add,
+    Subtract,
 }
 
-#[derive(Clone, Debug, PartialEq, Eq)]
-pub enum Expression {
-    Constant(u64),
-    Secret(usize),
-    Add(Box<Expression>, Box<Expression>),
-    Subtract(Box<Expression>, Box<Expression>),
+/// A condition: its terms in the order of the text.
+#[derive(Clone, Copy, Debug, PartialEq, Eq)]
+pub struct Condition<'s>(pub &'s [Term]);
+
+impl Sheet {
+    /// The deposits of a definition.
+    pub fn deposits(&self, definition: usize) -> &[u64] {
+        &self.deposits[definition * self.participants..][..self.participants]
+    }
+
+    pub fn branches(&self, node: usize) -> &[Branch] {
+        self.nodes[node].branches.of(&self.branches)
+    }
+
+    /// The branches of all nodes, in the order of the nodes.
+    pub fn all_branches(&self) -> &[Branch] {
+        &self.branches
+    }
+
+    pub fn parts(&self, parts: Span) -> &[Part] {
+        parts.of(&self.parts)
+    }
+
+    pub fn condition(&self, condition: Span) -> Condition<'_> {
+        Condition(condition.of(&self.terms))
+    }
 }
 
 #[derive(Clone, Debug, PartialEq, Eq)]
@@ -186,11 +278,15 @@ pub enum LastPart {
         participant: usize,
         rows: Vec<Row>,
     },
-    /// A value for each secret of definition 0, and the events.
-    Play {
-        values: Vec<Value>,
-        events: Vec<Event>,
-    },
+    Play(Play),
+}
+
+/// The events of a play, and its values: one for each secret of definition 0, then those of renewals.
+#[derive(Clone, Debug, Default, PartialEq, Eq)]
+pub struct Play {
+    pub stipulated: Span,
+    pub events: Vec<Event>,
+    pub values: Vec<Value>,
 }
 
 #[derive(Clone, Copy, Debug, PartialEq, Eq)]
@@ -201,44 +297,38 @@ pub struct Row {
 }
 
 /// What is committed for a secret: a number, or `x`, an ill-formed commitment.
-#[derive(Clone, Copy, Debug, PartialEq, Eq)]
+#[derive(Clone, Copy, Debug, Default, PartialEq, Eq)]
 pub enum Value {
     Number(u64),
+    #[default]
     IllFormed,
 }
 
-#[derive(Clone, Debug, PartialEq, Eq)]
+/// An event; its numbers are as short as they may be, since a play has thousands.
+#[derive(Clone, Copy, Debug, PartialEq, Eq)]
 pub enum Event {
     Wait {
         delay: u64,
     },
     Sign {
-        participant: usize,
-        contract: usize,
-        branch: usize,
+        participant: u8,
+        contract: u32,
+        branch: u32,
     },
     Tell {
-        set: usize,
-        secret: usize,
+        set: u32,
+        secret: u32,
     },
     Fire {
-        contract: usize,
-        branch: usize,
+        contract: u32,
+        branch: u32,
     },
+    /// The values stand among those of the play.
     Renew {
-        contract: usize,
-        branch: usize,
-        values: Vec<Value>,
+        contract: u32,
+        branch: u32,
+        values: Span,
     },
-}
-
-/// Of the faults that apply, the lowest number.
-fn lowest(faults: impl IntoIterator<Item = (u32, bool)>) -> Option<u32> {
-    faults
-        .into_iter()
-        .filter(|(_, applies)| *applies)
-        .map(|(number, _)| number)
-        .reduce(|one, other| lower!(one, other))
 }
 
 // ---------------------------------------------------------------------------------------------
@@ -267,34 +357,85 @@ struct Reader<'a> {
     next: Next,
     /// Line 1 and the `def` lines are under the limit of 32,768 bytes.
     in_sheet: bool,
-
-    // The sheet as far as it has been read.
-    participants: usize,
     definitions_due: u64,
-    definitions: Vec<Definition>,
-    nodes: Vec<Node>,
+    /// The sheet as far as it has been read, and how many branches were begun.
+    sheet: Sheet,
     branches: usize,
 }
 
+/// The words of a branch, of a condition, of an expression, of a last part and of an event.
+#[derive(Clone, Copy)]
+enum Kind {
+    Withdraw,
+    Split,
+    Reveal,
+    Renew,
+}
+
+#[derive(Clone, Copy)]
+enum Asked {
+    Make,
+    MakeAll,
+    Why,
+    Check,
+    Play,
+}
+
+#[derive(Clone, Copy)]
+enum Done {
+    Wait,
+    Sign,
+    Tell,
+    Fire,
+    Renew,
+}
+
+/// What a condition may name, and how many fields it has so far: the 65th gets 7.
+struct Naming {
+    listed: Few<u8>,
+    /// The sum of 2^j over the listed secrets j.
+    listed_sum: u64,
+    fields: usize,
+}
+
+/// How long the field is that the bytes begin with.  Few bytes other than its end are as low as a comma.
+#[inline(always)]
+fn field_length(rest: &[u8]) -> usize {
+    let ends = |byte: &u8| *byte <= b',' && matches!(byte, b',' | b'\n');
+    rest.iter().position(ends).unwrap_or(rest.len())
+}
+
 /// The number that a field holds: 1 to 19 digits, no sign, no leading zero.
+#[inline(always)]
 fn decimal(text: &[u8]) -> Option<u64> {
     let text = rule!(text; PlusSign: text.strip_prefix(b"+").unwrap_or(text));
     let least = rule!(1; EmptyIsZero: 0);
     let length_fits = (least..=limit!(Digits, 19)).contains(&text.len());
-    let all_digits = text.iter().all(|byte| byte.is_ascii_digit());
     let longer = rule!(text.len() > 1; LeadingZeros: false, ZeroIsNone: true);
-    let leading_zero = longer && text[0] == b'0';
-    if length_fits && all_digits && !leading_zero {
-        let add = |number: u64, digit: &u8| number * 10 + u64::from(digit - b'0');
-        let number = text.iter().fold(0, add);
-        Some(rule!(number; NumbersIn32Bits: u64::from(number as u32)))
-    } else {
-        None
+    if !length_fits || longer && text[0] == b'0' {
+        return None;
     }
+    let mut number: u64 = 0;
+    for byte in text {
+        let digit = byte.wrapping_sub(b'0');
+        if digit > 9 {
+            return None;
+        }
+        number = number.wrapping_mul(10).wrapping_add(u64::from(digit));
+    }
+    Some(rule!(number; NumbersIn32Bits: u64::from(number as u32)))
 }
 
 impl<'a> Reader<'a> {
     fn new(request: &'a [u8]) -> Self {
+        // No list grows while it is filled: so many bytes at least go with each of its items.
+        let sheet_bytes = request.len().min(SHEET_BYTES);
+        let sheet = Sheet {
+            nodes: Vec::with_capacity((sheet_bytes / 4).min(NODES)),
+            branches: Vec::with_capacity((sheet_bytes / 6).min(BRANCHES + BRANCHES / 2)),
+            terms: Vec::with_capacity(sheet_bytes / 3),
+            ..Sheet::default()
+        };
         Reader {
             request,
             position: 0,
@@ -302,10 +443,8 @@ impl<'a> Reader<'a> {
             field: 0,
             next: Next::LineOver,
             in_sheet: true,
-            participants: 0,
             definitions_due: 0,
-            definitions: Vec::new(),
-            nodes: Vec::new(),
+            sheet,
             branches: 0,
         }
     }
@@ -332,6 +471,7 @@ impl<'a> Reader<'a> {
     }
 
     /// A refusal at the field that was taken last.
+    #[cold]
     fn refusal(&self, number: u32) -> Refusal {
         Refusal {
             number,
@@ -341,6 +481,7 @@ impl<'a> Reader<'a> {
     }
 
     /// Takes the field that is due; a missing field gets 2.
+    #[inline(always)]
     fn take(&mut self) -> Result<&'a [u8], Refusal> {
         self.field += 1;
         if self.next != Next::Field {
@@ -348,17 +489,14 @@ impl<'a> Reader<'a> {
             return Err(self.refusal(rule!(2; MissingIsThree: 3)));
         }
         let rest = &self.request[self.position..];
-        let length = rest
-            .iter()
-            .position(|byte| matches!(byte, b',' | b'\n'))
-            .unwrap_or(rest.len());
+        let length = field_length(rest);
         self.next = match rest.get(length) {
             Some(b',') => Next::Field,
             Some(_) => Next::LineOver,
             None => Next::RequestOver,
         };
         // The comma or LF counts; where the request ends without one there is nothing to count.
-        let counted = if self.next == Next::RequestOver { 0 } else { 1 };
+        let counted = usize::from(length < rest.len());
         self.position += length + counted;
         let last = self.next != Next::Field;
         if rule!(false; EmptyIsMissing: length == 0, EmptyLastIsMissing: length == 0 && last) {
@@ -371,68 +509,92 @@ impl<'a> Reader<'a> {
             Spaces: text.trim_ascii()))
     }
 
-    /// Of the faults that apply to the field that was taken last, the lowest number.  The limit of
-    /// 32,768 bytes (7) stands beside the faults of each field.
-    fn fault(&self, faults: impl IntoIterator<Item = (u32, bool)>) -> Option<u32> {
+    /// Is the field that was taken last past the limit of 32,768 bytes (7), which stands beside the
+    /// faults of each field?
+    #[inline(always)]
+    fn too_long(&self) -> bool {
         let counted = rule!(self.position;
             EndsNotCounted: self.position - 1,
             MissingEndCounted: self.position + usize::from(self.next == Next::RequestOver));
         let in_sheet = rule!(self.in_sheet; WholeRequestLimited: true);
-        let too_long = (7, in_sheet && counted > limit!(SheetBytes, SHEET_BYTES));
-        lowest(faults.into_iter().chain([too_long]))
+        in_sheet && counted > limit!(SheetBytes, SHEET_BYTES)
+    }
+
+    /// Of the faults that apply to the field that was taken last, the lowest number.
+    #[cold]
+    fn fault(&self, faults: &[(u32, bool)]) -> Option<u32> {
+        let applying = faults.iter().filter(|(_, applies)| *applies);
+        let numbers = applying.map(|(number, _)| *number);
+        let numbers = numbers.chain(self.too_long().then_some(7));
+        numbers.reduce(|one, other| lower!(one, other))
     }
 
     /// Judges the field that was taken last.
+    #[inline(always)]
     fn settle<const N: usize>(&self, faults: [(u32, bool); N]) -> Result<(), Refusal> {
-        match self.fault(faults) {
-            Some(number) => Err(self.refusal(number)),
-            None => Ok(()),
+        let any = faults.iter().fold(false, |any, fault| any | fault.1);
+        if any | self.too_long() {
+            if let Some(number) = self.fault(&faults) {
+                return Err(self.refusal(number));
+            }
         }
+        Ok(())
     }
 
     /// The field that was taken last is not the word or number due: 3, the lowest that applies.
-    fn not_due<const N: usize>(&self, faults: [(u32, bool); N]) -> Refusal {
+    #[cold]
+    fn not_due(&self, faults: &[(u32, bool)]) -> Refusal {
         let other = self.fault(faults).unwrap_or(3);
         self.refusal(lower!(3, other))
     }
 
     /// The line must be over: a field too many gets 9, a missing LF gets 2.
+    #[inline(always)]
     fn end_line(&mut self) -> Result<(), Refusal> {
         match self.next {
             Next::LineOver => Ok(()),
-            Next::RequestOver if rule!(false; FinalLfNotAsked: true) => Ok(()),
-            Next::RequestOver => {
-                self.field += rule!(1; MissingLfAtTheLast: 0);
-                Err(self.refusal(2))
-            }
-            Next::Field => {
-                let empty = self.take()?.is_empty();
-                let nine = rule!(9; ExtraIsThree: 3, ExtraEmptyIsThree: if empty { 3 } else { 9 });
-                let extra = rule!(true; ExtraIgnored: false, ExtraEmptyIgnored: !empty);
-                self.settle([(nine, extra)])
-            }
+            _ => self.end_otherwise(),
         }
     }
 
-    /// Reads one of the words that are due.  `faults` are the other faults of this field.
-    fn word<const N: usize>(
+    #[cold]
+    fn end_otherwise(&mut self) -> Result<(), Refusal> {
+        if self.next == Next::RequestOver {
+            if rule!(false; FinalLfNotAsked: true) {
+                return Ok(());
+            }
+            self.field += rule!(1; MissingLfAtTheLast: 0);
+            return Err(self.refusal(2));
+        }
+        let empty = self.take()?.is_empty();
+        let nine = rule!(9; ExtraIsThree: 3, ExtraEmptyIsThree: if empty { 3 } else { 9 });
+        let extra = rule!(true; ExtraIgnored: false, ExtraEmptyIgnored: !empty);
+        self.settle([(nine, extra)])
+    }
+
+    /// Reads one of the words that are due, and gives what it means.  `faults` are the other faults of
+    /// this field.
+    #[inline(always)]
+    fn word<T: Copy, const W: usize, const N: usize>(
         &mut self,
-        due: &[&'static str],
+        due: [(&'static str, T); W],
         faults: [(u32, bool); N],
-    ) -> Result<&'static str, Refusal> {
+    ) -> Result<T, Refusal> {
         let text = self.take()?;
-        let is_text = |word: &&str| {
-            rule!(word.as_bytes() == text;
+        for (word, meaning) in due {
+            if rule!(word.as_bytes() == text;
                 Capitals: word.as_bytes().eq_ignore_ascii_case(text),
                 LongerWords: text.starts_with(word.as_bytes()))
-        };
-        let word = due.iter().copied().find(is_text);
-        let word = word.ok_or_else(|| self.not_due(faults))?;
-        self.settle(faults)?;
-        Ok(word)
+            {
+                self.settle(faults)?;
+                return Ok(meaning);
+            }
+        }
+        Err(self.not_due(&faults))
     }
 
     /// Reads a number.  `faults` tells, for a number, the other faults of this field.
+    #[inline(always)]
     fn number<const N: usize>(
         &mut self,
         faults: impl FnOnce(u64) -> [(u32, bool); N],
@@ -442,25 +604,28 @@ impl<'a> Reader<'a> {
     }
 
     /// Reads the number in the field that was taken last.
+    #[inline(always)]
     fn number_in<const N: usize>(
         &self,
         text: &[u8],
         faults: impl FnOnce(u64) -> [(u32, bool); N],
     ) -> Result<u64, Refusal> {
         let Some(number) = decimal(text) else {
-            return Err(self.not_due(faults(u64::MAX)));
+            return Err(self.not_due(&faults(u64::MAX)));
         };
         self.settle(faults(number))?;
         Ok(number)
     }
 
     /// Reads a count or an amount; beyond its range it gets 4.
+    #[inline(always)]
     fn ranged(&mut self, least: u64, most: u64) -> Result<u64, Refusal> {
         let four = rule!(4; RangeIsSix: 6);
         self.number(|number| [(four, number < least || number > most)])
     }
 
     /// Reads the number of a thing of which there are `count`; if there is no such thing it gets 6.
+    #[inline(always)]
     fn thing(&mut self, count: usize) -> Result<usize, Refusal> {
         let six = rule!(6; ThingIsFour: 4);
         let number = self.number(|number| [(six, number >= count as u64)])?;
@@ -484,9 +649,10 @@ impl<'a> Reader<'a> {
 
     fn sheet(&mut self) -> Result<(), Refusal> {
         self.begin_line();
-        self.word(&["bitml"], [])?;
+        self.word([("bitml", ())], [])?;
         let least = limit!(LeastParticipants, 1);
-        self.participants = self.ranged(least, limit!(Participants, PARTICIPANTS))? as usize;
+        let participants = self.ranged(least, limit!(Participants, PARTICIPANTS))?;
+        self.sheet.participants = participants as usize;
         let least = limit!(LeastDefinitions, 1);
         self.definitions_due = self.ranged(least, limit!(Definitions, DEFINITIONS))?;
         self.end_line()?;
@@ -501,12 +667,26 @@ impl<'a> Reader<'a> {
 
     fn definition(&mut self) -> Result<(), Refusal> {
         self.begin_line();
-        self.word(&["def"], [])?;
-        let mut deposits = Vec::new();
-        let mut together = rule!(0;
-            DepositsOfAll: self.definitions.iter().flat_map(|d| &d.deposits).sum());
-        for place in 1..=self.participants {
-            let told_here = rule!(true; SumAtTheLast: place == self.participants);
+        self.word([("def", ())], [])?;
+        self.deposits()?;
+        let secrets = self.ranged(rule!(0; SecretsFrom1: 1), limit!(Secrets, SECRETS))?;
+        let mut owners = Few::default();
+        for _ in 0..secrets {
+            owners.push(self.thing(limit!(Owner, self.sheet.participants))? as u8);
+        }
+        self.branches = rule!(self.branches; BranchesByDefinition: 0);
+        // The definition's number is the count of those before it, and its root is the next node.
+        let root = self.sheet.nodes.len();
+        self.sheet.definitions.push(Definition { owners, root });
+        self.contract(1)?;
+        self.end_line()
+    }
+
+    fn deposits(&mut self) -> Result<(), Refusal> {
+        let mut together = rule!(0; DepositsOfAll: self.sheet.deposits.iter().sum());
+        let count = self.sheet.participants;
+        for place in 1..=count {
+            let told_here = rule!(true; SumAtTheLast: place == count);
             let deposit = self.number(|deposit| {
                 let least = rule!(0; DepositFrom1: 1);
                 let outside = deposit > limit!(Deposit, SATOSHI) || deposit < least;
@@ -515,86 +695,78 @@ impl<'a> Reader<'a> {
                 [(4, outside), (rule!(7; SumIsFour: 4), passed)]
             })?;
             together += deposit;
-            deposits.push(deposit);
+            self.sheet.deposits.push(deposit);
         }
-        let secrets = self.ranged(rule!(0; SecretsFrom1: 1), limit!(Secrets, SECRETS))?;
-        let mut owners = Vec::new();
-        for _ in 0..secrets {
-            owners.push(self.thing(limit!(Owner, self.participants))?);
-        }
-        self.branches = rule!(self.branches; BranchesByDefinition: 0);
-        // The definition's number is the count of those before it, and its root is the next node.
-        let root = self.nodes.len();
-        self.definitions.push(Definition {
-            deposits,
-            owners,
-            root,
-        });
-        self.contract(1)?;
-        self.end_line()
+        Ok(())
     }
 
     /// Reads a contract and gives its node.
     fn contract(&mut self, depth: usize) -> Result<usize, Refusal> {
-        let node = self.nodes.len();
-        let before = rule!(node;
-            NodesByDefinition: node - self.definitions[self.definitions.len() - 1].root);
+        let node = self.sheet.nodes.len();
+        let definition = self.sheet.definitions.len() - 1;
+        let before = rule!(node; NodesByDefinition: node - self.sheet.definitions[definition].root);
         let no_room = before >= limit!(Nodes, NODES);
-        self.word(&["c"], [(7, no_room), (7, depth > limit!(Depth, DEPTH))])?;
-        let definition = self.definitions.len() - 1;
-        self.nodes.push(Node {
-            definition,
-            depth,
-            branches: Vec::new(),
-        });
+        let too_deep = depth > limit!(Depth, DEPTH);
+        self.word([("c", ())], [(7, no_room), (7, too_deep)])?;
         let least = rule!(0; BranchesFrom1: 1);
-        let count = self.ranged(least, limit!(BranchesOfANode, BRANCHES_OF_A_NODE))?;
-        if rule!(false; BranchesForetold: self.branches + count as usize > BRANCHES) {
+        let count = self.ranged(least, limit!(BranchesOfANode, BRANCHES_OF_A_NODE))? as usize;
+        if rule!(false; BranchesForetold: self.branches + count > BRANCHES) {
             return Err(self.refusal(7));
         }
-        for _ in 0..count {
-            let branch = self.branch(depth)?;
-            self.nodes[node].branches.push(branch);
+        // The node's branches stand side by side, those of the contracts in them behind.
+        let first = self.sheet.branches.len();
+        self.sheet.branches.resize(first + count, DUE);
+        self.sheet.nodes.push(Node {
+            definition,
+            depth,
+            branches: Span::new(first, count),
+        });
+        for place in first..first + count {
+            self.sheet.branches[place] = self.branch(depth)?;
         }
         Ok(node)
     }
 
     /// Reads a branch of a contract at this depth.
     fn branch(&mut self, depth: usize) -> Result<Branch, Refusal> {
-        let all = limit!(Signers, number!(Range, self.participants));
+        let participants = self.sheet.participants;
+        let all = limit!(Signers, number!(Range, participants));
         let no_room = self.branches >= limit!(Branches, BRANCHES);
         let six = rule!(6; SignersIsFour: 4);
         let signers = self.number(|signers| [(six, signers >= all), (7, no_room)])?;
-        let signers = rule!(signers;
-            SignersBackwards: wrong::backwards(signers, self.participants));
+        let signers = rule!(signers; SignersBackwards: wrong::backwards(signers, participants));
         self.branches += 1;
         let opens = self.ranged(rule!(0; OpensFrom1: 1), limit!(OpeningTime, TIME))?;
-        let action = match self.word(&["w", "s", "r", "g"], [])? {
-            "w" => Action::Withdraw {
-                to: self.thing(limit!(PaidTo, self.participants))?,
+        let kinds = [
+            ("w", Kind::Withdraw),
+            ("s", Kind::Split),
+            ("r", Kind::Reveal),
+            ("g", Kind::Renew),
+        ];
+        let action = match self.word(kinds, [])? {
+            Kind::Withdraw => Action::Withdraw {
+                to: self.thing(limit!(PaidTo, participants))?,
             },
-            "s" => Action::Split {
-                parts: self.parts(depth)?,
-            },
-            "r" => self.reveal(depth)?,
-            _ => Action::Renew {
-                definition: {
-                    let count = self.definitions_due as usize;
-                    let count = rule!(count; NoLaterDefinition: self.definitions.len());
-                    self.thing(limit!(RenewedAs, count))?
-                },
-            },
+            Kind::Split => self.split(depth)?,
+            Kind::Reveal => self.reveal(depth)?,
+            Kind::Renew => {
+                let count = self.definitions_due as usize;
+                let count = rule!(count; NoLaterDefinition: self.sheet.definitions.len());
+                let definition = self.thing(limit!(RenewedAs, count))?;
+                Action::Renew { definition }
+            }
         };
         Ok(Branch {
-            signers,
+            signers: signers as u32,
             opens,
             action,
         })
     }
 
-    fn parts(&mut self, depth: usize) -> Result<Vec<Part>, Refusal> {
-        let count = self.ranged(limit!(LeastParts, 1), limit!(Parts, PARTS))?;
-        let mut parts = Vec::new();
+    fn split(&mut self, depth: usize) -> Result<Action, Refusal> {
+        let count = self.ranged(limit!(LeastParts, 1), limit!(Parts, PARTS))? as usize;
+        let first = self.sheet.parts.len();
+        self.sheet.parts.resize(first + count, Part::default());
         let mut sum = 0;
         for place in 1..=count {
             let told_here = rule!(place == count;
@@ -609,40 +781,32 @@ impl<'a> Reader<'a> {
             })?;
             sum += u128::from(weight);
             let node = self.contract(rule!(depth + 1; SplitsNotDeeper: depth))?;
-            parts.push(Part { weight, node });
+            self.sheet.parts[first + place - 1] = Part { weight, node };
         }
         if rule!(false; ZeroSumAfter: sum == 0) {
             return Err(self.refusal(8));
         }
-        Ok(parts)
+        let parts = Span::new(first, count);
+        Ok(Action::Split { parts })
     }
 
     fn reveal(&mut self, depth: usize) -> Result<Action, Refusal> {
-        let owned = self
-            .definitions
-            .last()
-            .map_or(0, |definition| definition.owners.len());
-        let owned = rule!(owned; SecretsOfDefinition0: self.definitions[0].owners.len());
-        // The count is 1 to 8 whatever the definition has; the secrets then get 5 or 6.
-        let most = rule!(limit!(Listed, SECRETS); ListedAsOwned: owned as u64);
-        let count = self.ranged(limit!(LeastListed, 1), most)?;
-        let mut secrets: Vec<usize> = Vec::new();
-        for _ in 0..count {
-            let secret = self.number(|secret| {
-                let same = |listed: &usize| *listed as u64 == secret;
-                let twice = rule!(secrets.iter().any(same);
-                    TwiceAllowed: false,
-                    TwiceInARowOnly: secrets.last().is_some_and(same));
-                let unknown = secret >= limit!(ListedSecret, owned as u64);
-                [(5, twice), (6, unknown)]
-            })?;
-            secrets.push(secret as usize);
-        }
-        let named = rule!(secrets.clone(); AnySecretNamed: (0..owned).collect());
-        let mut fields = rule!(0;
-            FieldsOfAllConditions: wrong::condition_fields(&self.nodes),
-            SecretsAreFields: secrets.len());
-        let condition = self.condition(&named, &mut fields)?;
+        let definitions = &self.sheet.definitions;
+        let definition = rule!(definitions.len() - 1; SecretsOfDefinition0: 0);
+        let owned = definitions[definition].owners.len() as u64;
+        let secrets = self.listed(owned)?;
+        let named = rule!(secrets;
+            AnySecretNamed: Few::from(&[0, 1, 2, 3, 4, 5, 6, 7][..owned as usize]));
+        let mut naming = Naming {
+            listed: named,
+            listed_sum: named.iter().fold(0, |sum, secret| sum | 1 << secret),
+            fields: rule!(0;
+                FieldsOfAllConditions: Condition(&self.sheet.terms).fields(),
+                SecretsAreFields: secrets.len()),
+        };
+        let first = self.sheet.terms.len();
+        self.condition(&mut naming)?;
+        let condition = Span::new(first, self.sheet.terms.len() - first);
         let next = self.contract(rule!(depth + 1; RevealsNotDeeper: depth))?;
         Ok(Action::Reveal {
             secrets,
@@ -651,114 +815,159 @@ impl<'a> Reader<'a> {
         })
     }
 
-    // `fields` counts the fields of the whole condition: the 65th gets 7.
-
-    fn condition(&mut self, listed: &[usize], fields: &mut usize) -> Result<Condition, Refusal> {
-        *fields += 1;
-        let passed = *fields > limit!(FieldsAtCondition, CONDITION_FIELDS);
-        let word = self.word(&["t", "and", "not", "eq", "lt"], [(7, passed)])?;
-        Ok(match word {
-            "t" => Condition::True,
-            "and" => {
-                let left = self.condition(listed, fields)?;
-                let right = self.condition(listed, fields)?;
-                Condition::And(Box::new(left), Box::new(right))
-            }
-            "not" => Condition::Not(Box::new(self.condition(listed, fields)?)),
-            word => {
-                let left = self.expression(listed, fields)?;
-                let right = self.expression(listed, fields)?;
-                if word == "eq" {
-                    Condition::Equal(left, right)
-                } else {
-                    Condition::Less(left, right)
-                }
-            }
-        })
+    /// Reads the secrets of an `r` in a definition that has so many.
+    fn listed(&mut self, owned: u64) -> Result<Few<u8>, Refusal> {
+        // The count is 1 to 8 whatever the definition has; the secrets then get 5 or 6.
+        let most = rule!(limit!(Listed, SECRETS); ListedAsOwned: owned);
+        let count = self.ranged(limit!(LeastListed, 1), most)?;
+        let mut secrets: Few<u8> = Few::default();
+        for _ in 0..count {
+            let secret = self.number(|secret| {
+                let same = |listed: &u8| u64::from(*listed) == secret;
+                let twice = rule!(secrets.iter().any(same);
+                    TwiceAllowed: false,
+                    TwiceInARowOnly: secrets.last().is_some_and(same));
+                let unknown = secret >= limit!(ListedSecret, owned);
+                [(5, twice), (6, unknown)]
+            })?;
+            secrets.push(secret as u8);
+        }
+        Ok(secrets)
     }
 
-    fn expression(&mut self, listed: &[usize], fields: &mut usize) -> Result<Expression, Refusal> {
-        *fields += 1;
-        let passed = *fields > limit!(FieldsAtExpression, CONDITION_FIELDS);
-        let word = self.word(&["k", "v", "add", "sub"], [(7, passed)])?;
-        Ok(match word {
-            "k" => {
-                *fields += rule!(1; NumbersNotCounted: 0);
-                let passed = *fields > limit!(FieldsAtConstant, CONDITION_FIELDS);
-                let least = rule!(0; ConstantFrom1: 1);
-                let outside = |number| number > limit!(Constant, VALUE) || number < least;
-                Expression::Constant(self.number(|number| [(4, outside(number)), (7, passed)])?)
+    fn condition(&mut self, naming: &mut Naming) -> Result<(), Refusal> {
+        naming.fields += 1;
+        let passed = naming.fields > limit!(FieldsAtCondition, CONDITION_FIELDS);
+        let words = [
+            ("t", Term::True),
+            ("and", Term::And),
+            ("not", Term::Not),
+            ("eq", Term::Equal),
+            ("lt", Term::Less),
+        ];
+        let word = self.word(words, [(7, passed)])?;
+        self.sheet.terms.push(word);
+        match word {
+            Term::True => Ok(()),
+            Term::Not => self.condition(naming),
+            Term::And => {
+                self.condition(naming)?;
+                self.condition(naming)
             }
-            "v" => {
-                *fields += rule!(1; NumbersNotCounted: 0);
-                let passed = *fields > limit!(FieldsAtSecret, CONDITION_FIELDS);
-                let secret = self.number(|secret| {
-                    let known = rule!(listed.iter().any(|listed| *listed as u64 == secret);
-                        NamedByPlace: secret < listed.len() as u64);
-                    [(6, !known), (7, passed)]
-                })?;
-                Expression::Secret(rule!(secret as usize; NamedByPlace: listed[secret as usize]))
+            _ => {
+                self.expression(naming)?;
+                self.expression(naming)
             }
-            word => {
-                let left = Box::new(self.expression(listed, fields)?);
-                let right = Box::new(self.expression(listed, fields)?);
-                if word == "add" {
-                    Expression::Add(left, right)
-                } else {
-                    Expression::Subtract(left, right)
-                }
+        }
+    }
+
+    fn expression(&mut self, naming: &mut Naming) -> Result<(), Refusal> {
+        naming.fields += 1;
+        let passed = naming.fields > limit!(FieldsAtExpression, CONDITION_FIELDS);
+        let words = [
+            ("k", Term::Constant(0)),
+            ("v", Term::Secret(0)),
+            ("add", Term::Add),
+            ("sub", Term::Subtract),
+        ];
+        let word = self.word(words, [(7, passed)])?;
+        let term = match word {
+            Term::Constant(_) => self.constant(naming)?,
+            Term::Secret(_) => self.named(naming)?,
+            sum => {
+                self.sheet.terms.push(sum);
+                self.expression(naming)?;
+                return self.expression(naming);
             }
-        })
+        };
+        self.sheet.terms.push(term);
+        Ok(())
+    }
+
+    #[inline(always)]
+    fn constant(&mut self, naming: &mut Naming) -> Result<Term, Refusal> {
+        naming.fields += rule!(1; NumbersNotCounted: 0);
+        let passed = naming.fields > limit!(FieldsAtConstant, CONDITION_FIELDS);
+        let least = rule!(0; ConstantFrom1: 1);
+        let outside = |number| number > limit!(Constant, VALUE) || number < least;
+        let number = self.number(|number| [(4, outside(number)), (7, passed)])?;
+        Ok(Term::Constant(number as u32))
+    }
+
+    #[inline(always)]
+    fn named(&mut self, naming: &mut Naming) -> Result<Term, Refusal> {
+        naming.fields += rule!(1; NumbersNotCounted: 0);
+        let passed = naming.fields > limit!(FieldsAtSecret, CONDITION_FIELDS);
+        let secret = self.number(|secret| {
+            let listed = secret < 64 && naming.listed_sum >> secret & 1 == 1;
+            let known = rule!(listed; NamedByPlace: secret < naming.listed.len() as u64);
+            [(6, !known), (7, passed)]
+        })?;
+        let secret = rule!(secret as u8; NamedByPlace: naming.listed[secret as usize]);
+        Ok(Term::Secret(secret))
     }
 
     // -- the last part ------------------------------------------------------------------------
 
     fn last_part(&mut self) -> Result<LastPart, Refusal> {
         self.begin_line();
-        match self.word(&["make", "makeall", "why", "check", "play"], [])? {
-            "make" => {
-                let participant = self.thing(limit!(Maker, self.participants))?;
+        let words = [
+            ("make", Asked::Make),
+            ("makeall", Asked::MakeAll),
+            ("why", Asked::Why),
+            ("check", Asked::Check),
+            ("play", Asked::Play),
+        ];
+        match self.word(words, [])? {
+            Asked::Make => {
+                let participant = self.thing(limit!(Maker, self.sheet.participants))?;
                 self.end_line()?;
                 self.end_request(rule!(0; MoreLinesAllowed: usize::MAX, EmptyLineAllowed: 1))?;
                 Ok(LastPart::Make { participant })
             }
-            "makeall" => {
+            Asked::MakeAll => {
                 if rule!(false; AllAsksAField: true, AllTakesAField: self.next == Next::Field) {
-                    self.thing(self.participants)?;
+                    self.thing(self.sheet.participants)?;
                 }
                 self.end_line()?;
                 self.end_request(rule!(0; MoreLinesAfterAll: usize::MAX, EmptyLineAfterAll: 1))?;
                 Ok(LastPart::MakeAll)
             }
-            "why" => {
+            Asked::Why => {
                 let participant = self.asker()?;
                 self.end_request(rule!(0; MoreLinesAfterWhy: usize::MAX, EmptyLineAfterWhy: 1))?;
                 Ok(LastPart::Why { participant })
             }
-            "check" => {
-                let participant = self.thing(limit!(CheckedFor, self.participants))?;
+            Asked::Check => {
+                let participant = self.thing(limit!(CheckedFor, self.sheet.participants))?;
                 self.end_line()?;
                 let rows = self.rows()?;
                 Ok(LastPart::Check { participant, rows })
             }
-            _ => self.play(),
+            Asked::Play => Ok(LastPart::Play(self.play()?)),
         }
     }
 
     /// Reads the values of `play`, and its events.
-    fn play(&mut self) -> Result<LastPart, Refusal> {
-        let definition = rule!(0; ValuesOfTheLast: self.definitions.len() - 1);
-        let secrets = self.definitions[definition].owners.len();
-        let mut values = Vec::new();
+    fn play(&mut self) -> Result<Play, Refusal> {
+        let definition = rule!(0; ValuesOfTheLast: self.sheet.definitions.len() - 1);
+        let secrets = self.sheet.definitions[definition].owners.len();
+        let mut play = Play {
+            stipulated: Span::new(0, secrets),
+            ..Play::default()
+        };
         for _ in 0..secrets {
-            values.push(self.value()?);
+            play.values.push(self.value()?);
         }
         self.end_line()?;
-        let mut events = Vec::new();
+        // An event has 7 bytes at least.
+        let left = self.request.len() - self.position;
+        play.events.reserve_exact(left / 7);
         while self.line_follows() {
-            events.push(self.event()?);
+            let event = self.event(&mut play.values)?;
+            play.events.push(event);
         }
-        Ok(LastPart::Play { values, events })
+        Ok(play)
     }
 
     /// Reads the participant of `why`, and the end of its line.
@@ -768,7 +977,7 @@ impl<'a> Reader<'a> {
             self.end_line()?;
             return Ok(0);
         }
-        let count = limit!(Asker, self.participants);
+        let count = limit!(Asker, self.sheet.participants);
         let asker = self.thing(rule!(count; AskerAfterTheLine: usize::MAX))?;
         while rule!(false; WhyFieldsIgnored: self.next == Next::Field) {
             self.take()?;
@@ -790,7 +999,7 @@ impl<'a> Reader<'a> {
 
     /// Reads the lines up to the end of the request as rows.
     fn rows(&mut self) -> Result<Vec<Row>, Refusal> {
-        let mut rows: Vec<Row> = Vec::new();
+        let mut rows: Vec<Row> = Vec::with_capacity(ROWS);
         while self.line_follows() {
             let row = self.row(rows.len())?;
             let twice = |before: &Row| before.node == row.node;
@@ -810,66 +1019,79 @@ impl<'a> Reader<'a> {
     /// Reads a row line, after `before` others.
     fn row(&mut self, before: usize) -> Result<Row, Refusal> {
         self.begin_line();
-        self.word(&["row"], [(7, before >= limit!(Rows, ROWS))])?;
-        let node = self.thing(limit!(RowNode, self.nodes.len()))?;
-        let branches = self.nodes[node].branches.len();
+        self.word([("row", ())], [(7, before >= limit!(Rows, ROWS))])?;
+        let node = self.thing(limit!(RowNode, self.sheet.nodes.len()))?;
+        let branches = self.sheet.branches(node).len();
         let branch = self.thing(rule!(limit!(RowBranch, branches); RowBranchOfAny: 16))?;
         let rank = self.ranged(limit!(LeastRank, 1), limit!(Rank, RANK))?;
         self.end_line()?;
         Ok(Row { node, branch, rank })
     }
 
-    fn event(&mut self) -> Result<Event, Refusal> {
+    /// Reads an event; the values of a renewal go behind those before.
+    fn event(&mut self, values: &mut Vec<Value>) -> Result<Event, Refusal> {
         self.begin_line();
-        let event = match self.word(&["wait", "sign", "tell", "fire", "renew"], [])? {
-            "wait" => Event::Wait {
+        let words = [
+            ("wait", Done::Wait),
+            ("sign", Done::Sign),
+            ("tell", Done::Tell),
+            ("fire", Done::Fire),
+            ("renew", Done::Renew),
+        ];
+        let event = match self.word(words, [])? {
+            Done::Wait => Event::Wait {
                 delay: self.ranged(limit!(LeastWait, 1), limit!(Wait, TIME))?,
             },
-            "sign" => Event::Sign {
-                participant: {
-                    let count = limit!(SignedBy, self.participants) as u64;
-                    let four = |p| rule!(false; FarSignersAreFour: p > EVENT_FIELD);
-                    self.number(|p| [(4, four(p)), (6, p >= count)])? as usize
-                },
+            Done::Sign => Event::Sign {
+                participant: self.signer()?,
                 contract: self.event_field(limit!(SignContract, EVENT_FIELD))?,
                 branch: self.event_field(limit!(SignBranch, EVENT_FIELD))?,
             },
-            "tell" => Event::Tell {
+            Done::Tell => Event::Tell {
                 set: self.event_field(limit!(TellSet, EVENT_FIELD))?,
                 secret: self.event_field(limit!(TellSecret, EVENT_FIELD))?,
             },
-            "fire" => Event::Fire {
+            Done::Fire => Event::Fire {
                 contract: self.event_field(limit!(FireContract, EVENT_FIELD))?,
                 branch: self.event_field(limit!(FireBranch, EVENT_FIELD))?,
             },
-            _ => {
-                let contract = self.event_field(limit!(RenewContract, EVENT_FIELD))?;
-                let branch = self.event_field(limit!(RenewBranch, EVENT_FIELD))?;
-                let mut values = Vec::new();
-                // Up to 8 values; a ninth is a field too many.
-                while self.next == Next::Field && (values.len() as u64) < limit!(Values, SECRETS) {
-                    values.push(self.value()?);
-                    if rule!(false; NoXInRenewals: values.last() == Some(&Value::IllFormed)) {
-                        return Err(self.refusal(3));
-                    }
-                }
-                if rule!(false; NinthValueRead: self.next == Next::Field) {
-                    self.value()?;
-                    return Err(self.refusal(9));
-                }
-                Event::Renew {
-                    contract,
-                    branch,
-                    values,
-                }
-            }
+            Done::Renew => Event::Renew {
+                contract: self.event_field(limit!(RenewContract, EVENT_FIELD))?,
+                branch: self.event_field(limit!(RenewBranch, EVENT_FIELD))?,
+                values: self.renewed_values(values)?,
+            },
         };
         self.end_line()?;
         Ok(event)
     }
 
-    fn event_field(&mut self, most: u64) -> Result<usize, Refusal> {
-        Ok(self.ranged(0, most)? as usize)
+    #[inline(always)]
+    fn event_field(&mut self, most: u64) -> Result<u32, Refusal> {
+        Ok(self.ranged(0, most)? as u32)
+    }
+
+    #[inline(always)]
+    fn signer(&mut self) -> Result<u8, Refusal> {
+        let count = limit!(SignedBy, self.sheet.participants) as u64;
+        let four = |p| rule!(false; FarSignersAreFour: p > EVENT_FIELD);
+        Ok(self.number(|p| [(4, four(p)), (6, p >= count)])? as u8)
+    }
+
+    /// Reads up to 8 values; a ninth is a field too many.
+    fn renewed_values(&mut self, values: &mut Vec<Value>) -> Result<Span, Refusal> {
+        let first = values.len();
+        let most = limit!(Values, SECRETS) as usize;
+        while self.next == Next::Field && values.len() - first < most {
+            values.push(self.value()?);
+            if rule!(false; NoXInRenewals: values.last() == Some(&Value::IllFormed)) {
+                return Err(self.refusal(3));
+            }
+        }
+        if rule!(false; NinthValueRead: self.next == Next::Field) {
+            self.value()?;
+            return Err(self.refusal(9));
+        }
+        Ok(Span::new(first, values.len() - first))
     }
 }
 
@@ -887,11 +1109,7 @@ pub fn read(request: &[u8]) -> Result<Request, Refusal> {
     reader.in_sheet = false;
     let line = reader.line + 1;
     let part = reader.last_part()?;
-    let sheet = Sheet {
-        participants: reader.participants,
-        definitions: reader.definitions,
-        nodes: reader.nodes,
-    };
+    let sheet = reader.sheet;
     Ok(Request { sheet, part, line })
 }
 
@@ -900,82 +1118,109 @@ pub fn read(request: &[u8]) -> Result<Request, Refusal> {
 // ---------------------------------------------------------------------------------------------
 
 impl Branch {
-    /// The contracts that the branch holds: its parts for `s`, the one that follows for `r`.
-    pub fn contracts(&self) -> Vec<usize> {
-        match &self.action {
-            Action::Withdraw { .. } | Action::Renew { .. } => Vec::new(),
-            Action::Split { parts } => {
-                let parts = rule!(&parts[..]; FirstPartOnly: &parts[..1]);
-                let counts = |part: &&Part| rule!(true; WeightlessLeftOut: part.weight > 0);
-                parts.iter().filter(counts).map(|part| part.node).collect()
-            }
-            Action::Reveal { next, .. } => vec![*next],
-        }
-    }
-
     pub fn is_renewal(&self) -> bool {
         matches!(self.action, Action::Renew { .. })
     }
 
     pub fn is_signed_by(&self, participant: usize) -> bool {
-        self.signers & number!(Signs, participant) != 0
+        u64::from(self.signers) & number!(Signs, participant) != 0
     }
 }
 
 impl Sheet {
+    /// The contracts that a branch holds: its parts for `s`, the one that follows for `r`.
+    pub fn contracts<'s>(&'s self, branch: &Branch) -> impl Iterator<Item = usize> + Clone + 's {
+        let (parts, next): (&[Part], _) = match branch.action {
+            Action::Split { parts } => (self.parts(parts), None),
+            Action::Reveal { next, .. } => (&[], Some(next)),
+            Action::Withdraw { .. } | Action::Renew { .. } => (&[], None),
+        };
+        let parts = rule!(parts; FirstPartOnly: &parts[..parts.len().min(1)]);
+        let counts = |part: &&Part| rule!(true; WeightlessLeftOut: part.weight > 0);
+        parts
+            .iter()
+            .filter(counts)
+            .map(|part| part.node)
+            .chain(next)
+    }
+
     /// The nodes by which a step with this branch replaces its node.
-    pub fn replaced_by(&self, branch: &Branch) -> Vec<usize> {
-        match branch.action {
-            Action::Renew { definition } => vec![self.definitions[definition].root],
-            _ => branch.contracts(),
-        }
+    pub fn replaced_by<'s>(&'s self, branch: &Branch) -> impl Iterator<Item = usize> + Clone + 's {
+        let renewed = match branch.action {
+            Action::Renew { definition } => Some(self.definitions[definition].root),
+            _ => None,
+        };
+        self.contracts(branch).chain(renewed)
     }
 
     /// Is this branch of this node a step own to the participant?
-    pub fn is_own(&self, node: usize, branch: usize, participant: usize) -> bool {
-        let definition = rule!(self.nodes[node].definition; OwnersInDefinition0: 0);
-        let owners = &self.definitions[definition].owners;
-        let branch = &self.nodes[node].branches[branch];
-        let signers = branch.signers;
+    pub fn is_own(&self, node: usize, number: usize, participant: usize) -> bool {
+        let branch = &self.branches(node)[number];
+        let signers = u64::from(branch.signers);
         let signed_by_none_but_them = rule!(signers & !number!(Own, participant) == 0;
             SignersIgnored: true,
             NoSignerAtAll: signers == 0,
             MustSign: signers == 1 << participant,
             AmongTheSigners: signers == 0 || branch.is_signed_by(participant));
-        let kind_is_own = || match &branch.action {
+        let open = rule!(true; MustBeOpen: branch.opens == 0);
+        let signed_by_none_but_them = rule!(signed_by_none_but_them;
+            SignersIgnoredAnyway: signed_by_none_but_them || wrong::is_other(self, branch));
+        signed_by_none_but_them && open && self.kind_is_own(node, branch, participant)
+    }
+
+    /// Whoever signs it, is the branch of a kind that is own?
+    fn kind_is_own(&self, node: usize, branch: &Branch, participant: usize) -> bool {
+        match &branch.action {
             Action::Withdraw { to } => rule!(true; OthersNotPaid: *to == participant),
             Action::Split { .. } => rule!(true; SplitsNotOwn: false),
             Action::Reveal {
                 secrets, condition, ..
             } => {
-                let theirs = |secret: &usize| owners[*secret] == participant;
-                let other = *condition != Condition::True;
+                let condition = self.condition(*condition);
                 // The condition comes last: the secrets, one at least, are all of one participant at
                 // most, so it is judged once however many participants the branch is looked at for.
-                rule!(secrets.iter().all(theirs);
-                    OwnersIgnored: true,
-                    OwnersIgnoredAnyway: other || secrets.iter().all(theirs),
-                    OneOwnedSuffices: secrets.iter().any(theirs),
-                    OneOwnedSufficesAnyway: secrets.iter().filter(|it| theirs(it)).count()
-                        >= if other { 1 } else { secrets.len() },
-                    FirstOwnedSuffices: theirs(&secrets[0]))
-                    && rule!(condition.counts();
-                        AnyCondition: true,
-                        RevealsNotOwn: false,
-                        CountsInDefinition0: condition.counts() && (!other || definition == 0),
-                        CountsAtRoots: condition.counts()
-                            && (!other || self.nodes[node].depth == 1),
-                        CountsByTheFirst: wrong::first_condition(self)
-                            .is_some_and(Condition::counts))
+                self.secrets_are_own(node, secrets, condition, participant)
+                    && self.condition_is_own(node, condition)
             }
             Action::Renew { .. } => rule!(false;
                 RenewalsOwn: true,
                 RenewalsOwnAlone: self.participants == 1),
-        };
-        let open = rule!(true; MustBeOpen: branch.opens == 0);
-        let signed_by_none_but_them = rule!(signed_by_none_but_them;
-            SignersIgnoredAnyway: signed_by_none_but_them || wrong::is_other(branch));
-        signed_by_none_but_them && open && kind_is_own()
+        }
+    }
+
+    /// Are all listed secrets the participant's?
+    fn secrets_are_own(
+        &self,
+        node: usize,
+        secrets: &[u8],
+        condition: Condition,
+        participant: usize,
+    ) -> bool {
+        let definition = rule!(self.nodes[node].definition; OwnersInDefinition0: 0);
+        let owners = &self.definitions[definition].owners;
+        let theirs = |secret: &u8| usize::from(owners[usize::from(*secret)]) == participant;
+        let other = !condition.is_t();
+        rule!(secrets.iter().all(theirs);
+            OwnersIgnored: true,
+            OwnersIgnoredAnyway: other || secrets.iter().all(theirs),
+            OneOwnedSuffices: secrets.iter().any(theirs),
+            OneOwnedSufficesAnyway: secrets.iter().filter(|it| theirs(it)).count()
+                >= if other { 1 } else { secrets.len() },
+            FirstOwnedSuffices: theirs(&secrets[0]))
+    }
+
+    /// Does the condition count as `t`?
+    fn condition_is_own(&self, node: usize, condition: Condition) -> bool {
+        let other = !condition.is_t();
+        let Node {
+            definition, depth, ..
+        } = self.nodes[node];
+        rule!(condition.counts();
+            AnyCondition: true,
+            RevealsNotOwn: false,
+            CountsInDefinition0: condition.counts() && (!other || definition == 0),
+            CountsAtRoots: condition.counts() && (!other || depth == 1),
+            CountsByTheFirst: wrong::first_condition(self).is_some_and(Condition::counts))
     }
 }
 
@@ -988,11 +1233,12 @@ pub fn reached(sheet: &Sheet) -> Vec<bool> {
 fn reached_by(sheet: &Sheet, follows: impl Fn(usize, usize) -> bool) -> Vec<bool> {
     let mut reached = vec![false; sheet.nodes.len()];
     let first = rule!(0; RunsFromTheLast: sheet.definitions.len() - 1);
-    let mut to_visit = vec![sheet.definitions[first].root];
+    let mut to_visit = Vec::with_capacity(sheet.nodes.len());
+    to_visit.push(sheet.definitions[first].root);
     while let Some(node) = to_visit.pop() {
         if !reached[node] {
             reached[node] = true;
-            for (number, branch) in sheet.nodes[node].branches.iter().enumerate() {
+            for (number, branch) in sheet.branches(node).iter().enumerate() {
                 if follows(node, number) {
                     to_visit.extend(sheet.replaced_by(branch));
                 }
@@ -1009,41 +1255,48 @@ fn reached_by(sheet: &Sheet, follows: impl Fn(usize, usize) -> bool) -> Vec<bool
 pub fn exits(sheet: &Sheet, participant: usize) -> Vec<Option<Row>> {
     let mut exits: Vec<Option<Row>> = vec![None; sheet.nodes.len()];
     for node in (0..sheet.nodes.len()).rev() {
-        let mut best: Option<Row> = None;
-        for (number, branch) in sheet.nodes[node].branches.iter().enumerate() {
-            if !sheet.is_own(node, number, participant) {
-                continue;
-            }
-            // None if some contract of the branch has no exit.
-            let parts = branch.contracts();
-            let rank_of = |part: &usize| {
-                let rank = exits[*part].map(|row| row.rank);
-                rule!(rank; ExitsNotAsked: rank.or(Some(0)))
-            };
-            let mut ranks = parts.iter().map(rank_of);
-            let sum: Option<u64> = rule!(ranks.sum();
-                MadeByLargest: ranks.try_fold(0, |largest, rank| Some(rank?.max(largest))));
-            if let Some(sum) = sum {
-                let rank = rule!(1; MadeWithout1: 0) + sum;
-                // Only a lower rank takes the place of an earlier branch.
-                let better = |row: Row| {
-                    rule!(rank < row.rank;
-                        TiesToTheHigher: rank <= row.rank,
-                        FirstBranch: false,
-                        LastBranch: true)
-                };
-                if best.map_or(true, better) {
-                    best = Some(Row {
-                        node,
-                        branch: number,
-                        rank,
-                    });
-                }
-            }
-        }
+        let best = best_exit(sheet, participant, node, &exits);
         exits[node] = rule!(best; EmptyIsAnExit: best.or(wrong::done(sheet, node)));
     }
     exits
+}
+
+/// The row of one node, where those of all higher nodes are known.
+#[inline]
+fn best_exit(sheet: &Sheet, participant: usize, node: usize, exits: &[Option<Row>]) -> Option<Row> {
+    let mut best: Option<Row> = None;
+    for (number, branch) in sheet.branches(node).iter().enumerate() {
+        if !sheet.is_own(node, number, participant) {
+            continue;
+        }
+        let rank_of = |part: usize| {
+            let rank = exits[part].map(|row| row.rank);
+            rule!(rank; ExitsNotAsked: rank.or(Some(0)))
+        };
+        // None if some contract of the branch has no exit.
+        let mut ranks = sheet.contracts(branch).map(rank_of);
+        let sum: Option<u64> = rule!(ranks.sum();
+            MadeByLargest: ranks.try_fold(0, |largest, rank| Some(rank?.max(largest))));
+        let Some(sum) = sum else {
+            continue;
+        };
+        let rank = rule!(1; MadeWithout1: 0) + sum;
+        // Only a lower rank takes the place of an earlier branch.
+        let better = |row: Row| {
+            rule!(rank < row.rank;
+                TiesToTheHigher: rank <= row.rank,
+                FirstBranch: false,
+                LastBranch: true)
+        };
+        if best.map_or(true, better) {
+            best = Some(Row {
+                node,
+                branch: number,
+                rank,
+            });
+        }
+    }
+    best
 }
 
 // ---------------------------------------------------------------------------------------------
@@ -1052,20 +1305,27 @@ pub fn exits(sheet: &Sheet, participant: usize) -> Vec<Option<Row>> {
 
 /// The published rows, in rising node order, or the lowest reached node with no exit.
 pub fn make(sheet: &Sheet, participant: usize) -> Result<Vec<Row>, usize> {
+    make_where(sheet, participant, &reached(sheet))
+}
+
+/// The same where it is known which nodes are reached.
+fn make_where(sheet: &Sheet, participant: usize, reached: &[bool]) -> Result<Vec<Row>, usize> {
     let participant = rule!(participant; MadeForTheFirst: 0);
     let exits = exits(sheet, participant);
-    let branch = |node: usize, number: usize| &sheet.nodes[node].branches[number];
+    let branch = |node: usize, number: usize| &sheet.branches(node)[number];
     let exit = |node: usize, number: usize| exits[node].is_some_and(|row| row.branch == number);
     let own = |node: usize, number: usize| sheet.is_own(node, number, participant);
-    let reached = rule!(reached(sheet);
-        EveryNode: vec![true; sheet.nodes.len()],
-        RootAlone: reached_by(sheet, |_, _| false),
-        ExitPathOnly: reached_by(sheet, exit),
-        OwnBranchesOnly: reached_by(sheet, own),
-        OpenBranchesOnly: reached_by(sheet, |node, number| branch(node, number).opens == 0),
-        UnsignedBranchesOnly: reached_by(sheet, |node, number| branch(node, number).signers == 0),
-        RenewalsNotFollowed: reached_by(sheet, |node, number| !branch(node, number).is_renewal()),
-        FalseNotFollowed: reached_by(sheet, |node, number| !wrong::is_false(branch(node, number))));
+    let is_false = |node: usize, number: usize| wrong::is_false(sheet, branch(node, number));
+    let otherwise = rule!(None;
+        EveryNode: Some(vec![true; sheet.nodes.len()]),
+        RootAlone: Some(reached_by(sheet, |_, _| false)),
+        ExitPathOnly: Some(reached_by(sheet, exit)),
+        OwnBranchesOnly: Some(reached_by(sheet, own)),
+        OpenBranchesOnly: Some(reached_by(sheet, |node, number| branch(node, number).opens == 0)),
+        UnsignedBranchesOnly: Some(reached_by(sheet, |node, number| branch(node, number).signers == 0)),
+        RenewalsNotFollowed: Some(reached_by(sheet, |node, number| !branch(node, number).is_renewal())),
+        FalseNotFollowed: Some(reached_by(sheet, |node, number| !is_false(node, number))));
+    let reached = otherwise.as_deref().unwrap_or(reached);
     let mut nodes = (0..sheet.nodes.len()).filter(|node| reached[*node]);
     let frozen = |node: &usize| exits[*node].is_none();
     let found = rule!(nodes.clone().find(frozen);
@@ -1075,7 +1335,8 @@ pub fn make(sheet: &Sheet, participant: usize) -> Result<Vec<Row>, usize> {
     if let Some(node) = found {
         return Err(node);
     }
-    let mut rows: Vec<Row> = nodes.filter_map(|node| exits[node]).collect();
+    let mut rows = Vec::with_capacity(sheet.nodes.len());
+    rows.extend(nodes.filter_map(|node| exits[node]));
     rule!(();
         MadeFalling: rows.reverse(),
         MadeByRank: rows.sort_by_key(|row| row.rank),
@@ -1195,22 +1456,22 @@ fn fault_of_all(
 /// Of 11, 12 and 13 the lowest that applies to a row.
 fn row_fault(sheet: &Sheet, participant: usize, row: &Row, rank_of: &[Option<u64>]) -> Option<u32> {
     let own = |number: &usize| sheet.is_own(row.node, *number, participant);
-    let branches = &sheet.nodes[row.node].branches;
+    let branches = sheet.branches(row.node);
     let asks = |number: &usize| {
         rule!(true;
             RowsOfTheBranchOnly: *number == row.branch,
             RowsOfOwnOnly: own(number),
-            RowsOfFalseNotAsked: !wrong::is_false(&branches[*number]),
+            RowsOfFalseNotAsked: !wrong::is_false(sheet, &branches[*number]),
             RowsOfRenewalsNotAsked: !branches[*number].is_renewal())
     };
     let asking = (0..branches.len()).filter(asks);
     let mut needed = asking.flat_map(|number| sheet.replaced_by(&branches[number]));
     let missing = needed.any(|node| rank_of[node].is_none());
-    let parts = branches[row.branch].contracts();
-    let ranks = parts.iter().filter_map(|node| rank_of[*node]);
+    let parts = sheet.contracts(&branches[row.branch]);
+    let ranks = parts.clone().filter_map(|node| rank_of[node]);
     let sum: u64 = rule!(ranks.sum();
         RankByLargest: ranks.max().unwrap_or(0),
-        RankByPublished: wrong::published(sheet, participant, &parts));
+        RankByPublished: wrong::published(sheet, participant, parts));
     let least = rule!(1; RankWithout1: 0) + sum;
     let too_low = rule!(row.rank < least;
         RankAnything: false,
@@ -1218,7 +1479,7 @@ fn row_fault(sheet: &Sheet, participant: usize, row: &Row, rank_of: &[Option<u64
         RankAbove: row.rank <= least,
         RanksWrap: row.rank < least % 65_536,
         RanksStop: row.rank < least.min(65_535));
-    lowest([(11, missing), (12, !own(&row.branch)), (13, too_low)])
+    lowest!(11: missing, 12: !own(&row.branch), 13: too_low)
 }
 
 // ---------------------------------------------------------------------------------------------
@@ -1234,34 +1495,63 @@ fn steps_away(
     goal: usize,
     follows: &impl Fn(usize, usize) -> bool,
 ) -> Vec<Option<usize>> {
-    let mut before: Vec<Vec<usize>> = vec![Vec::new(); sheet.nodes.len()];
-    for (node, Node { branches, .. }) in sheet.nodes.iter().enumerate() {
-        for number in (0..branches.len()).filter(|number| follows(node, *number)) {
-            for next in step_to(sheet, (node, number)) {
-                before[next].push(node);
-            }
-        }
-    }
+    let before = Before::of(sheet, follows);
     let mut away = vec![None; sheet.nodes.len()];
     away[goal] = Some(0);
-    let mut found = VecDeque::from([(goal, 0)]);
+    let mut found = VecDeque::with_capacity(sheet.nodes.len());
+    found.push_back((goal, 0));
     while let Some((node, steps)) = found.pop_front() {
-        for earlier in &before[node] {
-            if away[*earlier].is_none() {
-                away[*earlier] = Some(steps + 1);
-                found.push_back((*earlier, steps + 1));
+        for earlier in before.nodes(node) {
+            if away[earlier].is_none() {
+                away[earlier] = Some(steps + 1);
+                found.push_back((earlier, steps + 1));
             }
         }
     }
     away
 }
 
+/// For each node the nodes from which a step leads to it, chained in one list.
+struct Before {
+    /// The last entry of each node.
+    last: Vec<Option<usize>>,
+    /// A node, and the entry before for the same node that it leads to.
+    entries: Vec<(usize, Option<usize>)>,
+}
+
+impl Before {
+    fn of(sheet: &Sheet, follows: &impl Fn(usize, usize) -> bool) -> Before {
+        let mut before = Before {
+            last: vec![None; sheet.nodes.len()],
+            entries: Vec::with_capacity(sheet.nodes.len() + sheet.branches.len()),
+        };
+        for node in 0..sheet.nodes.len() {
+            let numbers = 0..sheet.branches(node).len();
+            for number in numbers.filter(|number| follows(node, *number)) {
+                for next in step_to(sheet, (node, number)) {
+                    let entry = before.entries.len();
+                    let earlier = before.last[next].replace(entry);
+                    before.entries.push((node, earlier));
+                }
+            }
+        }
+        before
+    }
+
+    fn nodes(&self, node: usize) -> impl Iterator<Item = usize> + '_ {
+        let entry = |place: usize| self.entries[place];
+        let first = self.last[node].map(entry);
+        std::iter::successors(first, move |(_, earlier)| earlier.map(entry)).map(|(node, _)| node)
+    }
+}
+
 /// The nodes that a step puts in the place of its node.
-fn step_to(sheet: &Sheet, (node, number): Step) -> Vec<usize> {
-    let nodes = sheet.replaced_by(&sheet.nodes[node].branches[number]);
-    rule!(nodes;
-        StepsToTheFirstPart: nodes.into_iter().take(1).collect(),
-        StepsToTheLastPart: nodes.into_iter().last().into_iter().collect())
+fn step_to(sheet: &Sheet, (node, number): Step) -> impl Iterator<Item = usize> + '_ {
+    let nodes = sheet.replaced_by(&sheet.branches(node)[number]);
+    let (skipped, taken) = rule!((0, usize::MAX);
+        StepsToTheFirstPart: (0, 1),
+        StepsToTheLastPart: (nodes.clone().count().saturating_sub(1), 1));
+    nodes.skip(skipped).take(taken)
 }
 
 /// Of the shortest runs by these branches to a list that holds `goal`, the first when compared step by
@@ -1274,7 +1564,8 @@ pub fn run_to(sheet: &Sheet, goal: usize, follows: impl Fn(usize, usize) -> bool
     // What a step leaves in the list is further away than what it puts there, so that no shortest run
     // comes back to it.
     while let Some(step) = next_step(sheet, &list, &away, &follows) {
-        list = step_to(sheet, step);
+        list.clear();
+        list.extend(step_to(sheet, step));
         run.push(step);
     }
     run
@@ -1290,13 +1581,13 @@ fn next_step(
     let nearest = list.iter().filter_map(|node| away[*node]).min()?;
     let after = nearest.checked_sub(1)?;
     let leads = |step: &Step| {
-        let mut next = step_to(sheet, *step).into_iter();
+        let mut next = step_to(sheet, *step);
         follows(step.0, step.1) && next.any(|node| away[node] == Some(after))
     };
     let steps = list
         .iter()
         .filter(|node| away[**node] == Some(nearest))
-        .flat_map(|node| (0..sheet.nodes[*node].branches.len()).map(|number| (*node, number)));
+        .flat_map(|node| (0..sheet.branches(*node).len()).map(|number| (*node, number)));
     let steps = steps.filter(leads);
     rule!(steps.min();
         LastRun: steps.max(),
@@ -1310,14 +1601,15 @@ fn next_step(
 
 /// The run that `why` tells.
 fn told_run(sheet: &Sheet, participant: usize, frozen: usize) -> Vec<Step> {
-    let branch = |node: usize, number: usize| &sheet.nodes[node].branches[number];
+    let branch = |node: usize, number: usize| &sheet.branches(node)[number];
+    let is_false = |node: usize, number: usize| wrong::is_false(sheet, branch(node, number));
     let own = |node: usize, number: usize| sheet.is_own(node, number, participant);
     let mut run = rule!(run_to(sheet, frozen, |_, _| true);
         OwnStepsOnly: run_to(sheet, frozen, own),
         OpenStepsOnly: run_to(sheet, frozen, |node, number| branch(node, number).opens == 0),
         UnsignedStepsOnly: run_to(sheet, frozen, |node, number| branch(node, number).signers == 0),
         NoStepsByRenewals: run_to(sheet, frozen, |node, number| !branch(node, number).is_renewal()),
-        NoFalseSteps: run_to(sheet, frozen, |node, number| !wrong::is_false(branch(node, number))),
+        NoFalseSteps: run_to(sheet, frozen, |node, number| !is_false(node, number)),
         AnyRun: wrong::any_run(sheet, frozen),
         RunFromTheEnd: wrong::run_from_the_end(sheet, frozen),
         RunByNodes: wrong::run_by_nodes(sheet, &steps_away(sheet, frozen, &|_, _| true)),
@@ -1343,16 +1635,19 @@ pub fn cause(
     number: usize,
     exits: &[Option<Row>],
 ) -> u32 {
-    let branch = &sheet.nodes[node].branches[number];
+    let branch = &sheet.branches(node)[number];
     let definition = rule!(sheet.nodes[node].definition; CauseByDefinition0: 0);
     let owners = &sheet.definitions[definition].owners;
     let (anothers, doubtful) = match &branch.action {
         Action::Reveal {
             secrets, condition, ..
-        } => (
-            secret_is_anothers(owners, secrets, condition, participant),
-            condition_is_cause(condition),
-        ),
+        } => {
+            let condition = sheet.condition(*condition);
+            (
+                secret_is_anothers(owners, secrets, condition, participant),
+                condition_is_cause(condition),
+            )
+        }
         _ => (false, false),
     };
     let causes = [
@@ -1360,7 +1655,7 @@ pub fn cause(
         (2, anothers),
         (3, doubtful),
         (4, rule!(branch.is_renewal(); RenewalsAreNoCause: false)),
-        (5, lacks_an_exit(branch, exits)),
+        (5, lacks_an_exit(sheet, branch, exits)),
     ];
     let applying = causes.iter().filter(|(_, applies)| *applies);
     let numbers = applying.map(|(number, _)| *number);
@@ -1370,7 +1665,7 @@ pub fn cause(
 
 /// 1: is anyone but the participant among the signers?
 fn another_signs(branch: &Branch, participant: usize) -> bool {
-    let others = branch.signers & !number!(Cause, participant) != 0;
+    let others = u64::from(branch.signers) & !number!(Cause, participant) != 0;
     let along = branch.signers >> participant & 1 == 1;
     rule!(others;
         SignedAlongIsNoCause: others && !along,
@@ -1383,105 +1678,135 @@ fn another_signs(branch: &Branch, participant: usize) -> bool {
 
 /// 2: is a listed secret another's?
 fn secret_is_anothers(
-    owners: &[usize],
-    secrets: &[usize],
-    condition: &Condition,
+    owners: &[u8],
+    secrets: &[u8],
+    condition: Condition,
     participant: usize,
 ) -> bool {
-    let mut anothers = secrets
-        .iter()
-        .filter(|secret| owners[**secret] != participant);
+    let is_anothers = |secret: u8| usize::from(owners[usize::from(secret)]) != participant;
+    let mut anothers = secrets.iter().filter(|secret| is_anothers(**secret));
     rule!(anothers.next().is_some();
         OwnSecretsAreACause: true,
         NamedSecretsOnly: anothers.any(|secret| wrong::names(condition, *secret)),
         UnnamedSecretsOnly: anothers.any(|secret| !wrong::names(condition, *secret)),
         AllSecretsAnothers: anothers.count() == secrets.len(),
-        FirstSecretAnothers: owners[secrets[0]] != participant,
-        LastSecretAnothers: owners[secrets[secrets.len() - 1]] != participant,
+        FirstSecretAnothers: is_anothers(secrets[0]),
+        LastSecretAnothers: is_anothers(secrets[secrets.len() - 1]),
         SecretsAreNoCause: false)
 }
 
 /// 3: does the condition not count as `t`?
-fn condition_is_cause(condition: &Condition) -> bool {
-    let value = || condition.holds(&|_| None);
+fn condition_is_cause(condition: Condition) -> bool {
+    let value = || condition.holds(|_| None);
     rule!(!condition.counts();
         FalseIsNoCause: value().is_none(),
         NamingIsNoCause: value() == Some(false),
-        OtherThanTIsACause: *condition != Condition::True,
+        OtherThanTIsACause: !condition.is_t(),
         ConditionsAreNoCause: false)
 }
 
 /// 5: does a contract in the branch lack an exit?
-fn lacks_an_exit(branch: &Branch, exits: &[Option<Row>]) -> bool {
-    let contracts = branch.contracts();
-    let mut without = contracts.iter().map(|node| exits[*node].is_none());
+fn lacks_an_exit(sheet: &Sheet, branch: &Branch, exits: &[Option<Row>]) -> bool {
+    let contracts = sheet.contracts(branch);
+    let mut without = contracts.clone().map(|node| exits[node].is_none());
     rule!(without.any(|without| without);
-        AllLackExits: !contracts.is_empty() && without.all(|without| without),
+        AllLackExits: contracts.count() > 0 && without.all(|without| without),
         FirstLacksAnExit: without.next() == Some(true),
         LastLacksAnExit: without.last() == Some(true))
 }
 
 /// A line for each branch of the frozen node: its number and its cause.
-fn causes(sheet: &Sheet, participant: usize, frozen: usize) -> String {
+fn put_causes(sheet: &Sheet, participant: usize, frozen: usize, text: &mut Text) {
     let exits = exits(sheet, participant);
     let node = rule!(frozen; CausesOfTheRoot: 0);
-    let count = sheet.nodes[node].branches.len();
-    let line = |number: usize| {
+    let count = sheet.branches(node).len();
+    let told = rule!(count;
+        CauseOfTheFirst: count.min(1),
+        CausesButTheLast: count.saturating_sub(1));
+    for place in 0..told {
+        let number = rule!(place; CausesFalling: count - 1 - place);
         let of = rule!(number; CauseOfTheNext: (number + 1) % count);
         let cause = cause(sheet, participant, node, of, &exits);
         let number = rule!(number; CausesFrom1: number + 1);
         let cause = rule!(cause; CausesOneLess: cause.wrapping_sub(1));
-        format!("branch,{number},{cause}\n")
-    };
-    let lines = (0..count).map(line);
-    rule!(lines.collect();
-        CausesFalling: lines.rev().collect(),
-        CauseOfTheFirst: lines.take(1).collect(),
-        CausesButTheLast: lines.take(count.saturating_sub(1)).collect())
+        text.line("branch", [number as u64, u64::from(cause)]);
+    }
+}
+
+/// The run to the frozen node.
+fn put_steps(sheet: &Sheet, participant: usize, frozen: usize, text: &mut Text) {
+    for (node, branch) in told_run(sheet, participant, frozen) {
+        text.line("step", [node as u64, branch as u64]);
+    }
+}
+
+/// What is told of a frozen sheet.
+#[derive(Clone, Copy)]
+enum Told {
+    Frozen,
+    Steps,
+    Causes,
 }
 
 /// What `why` answers: the last line of `make`, and if that is `frozen` a run to the node and what is wrong
 /// with its branches.
-fn why(sheet: &Sheet, participant: usize) -> String {
+fn why(sheet: &Sheet, participant: usize, text: &mut Text) {
     let participant = rule!(participant; WhyForTheFirst: 0);
-    let made = make(sheet, participant);
-    let (lines, _) = verdict(sheet, participant, made.clone());
-    let last = lines.split_inclusive('\n').last().unwrap_or_default();
-    let Err(frozen) = made else {
-        return rule!(last; WhyPrintsRows: &lines, LiquidUntold: "").to_string();
+    let frozen = match make(sheet, participant) {
+        Ok(rows) => {
+            rule!((); WhyPrintsRows: rows.iter().for_each(|row| put_row(sheet, row, text)));
+            return rule!(put_liquid(sheet, participant, &rows, text); LiquidUntold: ());
+        }
+        Err(frozen) => frozen,
     };
-    let run = told_run(sheet, participant, frozen);
-    let line = |(node, branch): Step| format!("step,{node},{branch}\n");
-    let steps: String = run.into_iter().map(line).collect();
-    let causes = causes(sheet, participant, frozen);
-    rule!(format!("{last}{steps}{causes}");
-        FrozenUntold: format!("{steps}{causes}"),
-        FrozenLast: format!("{steps}{causes}{last}"),
-        FrozenBetween: format!("{steps}{last}{causes}"),
-        CausesBeforeSteps: format!("{last}{causes}{steps}"),
-        StepsAlone: format!("{last}{steps}"),
-        CausesAlone: format!("{last}{causes}"))
+    let told: &[Told] = rule!(&[Told::Frozen, Told::Steps, Told::Causes];
+        FrozenUntold: &[Told::Steps, Told::Causes],
+        FrozenLast: &[Told::Steps, Told::Causes, Told::Frozen],
+        FrozenBetween: &[Told::Steps, Told::Frozen, Told::Causes],
+        CausesBeforeSteps: &[Told::Frozen, Told::Causes, Told::Steps],
+        StepsAlone: &[Told::Frozen, Told::Steps],
+        CausesAlone: &[Told::Frozen, Told::Causes]);
+    for told in told {
+        match told {
+            Told::Frozen => text.line("frozen", [participant as u64, frozen as u64]),
+            Told::Steps => put_steps(sheet, participant, frozen, text),
+            Told::Causes => put_causes(sheet, participant, frozen, text),
+        }
+    }
 }
 
 // ---------------------------------------------------------------------------------------------
 // The ledger
 // ---------------------------------------------------------------------------------------------
 
-/// One secret of a commitment set.
-#[derive(Clone, Copy, Debug, PartialEq, Eq)]
-pub struct Commitment {
-    pub value: Value,
-    pub told: bool,
+/// What is committed, and which secrets are told: the sum of 2^j over those.
+#[derive(Clone, Copy, Debug, Default, PartialEq, Eq)]
+pub struct Commitments {
+    pub values: Few<Value>,
+    told: u32,
 }
 
-#[derive(Clone, Debug, PartialEq, Eq)]
+impl Commitments {
+    fn of(values: &[Value]) -> Commitments {
+        Commitments {
+            values: Few::from(values),
+            told: 0,
+        }
+    }
+
+    pub fn is_told(&self, secret: usize) -> bool {
+        self.told >> secret & 1 == 1
+    }
+}
+
+#[derive(Clone, Copy, Debug, PartialEq, Eq)]
 pub struct Contract {
     pub node: usize,
     pub balance: u64,
     /// The number of its commitment set.
     pub set: usize,
     /// For each branch, the sum of 2^p over those who have signed it.
-    pub signed: Vec<u64>,
+    pub signed: [u32; BRANCHES_OF_A_NODE as usize],
     pub alive: bool,
 }
 
@@ -1491,113 +1816,134 @@ pub struct Ledger {
     pub time: u64,
     /// Contracts, numbered as made; dead ones keep their number.
     pub contracts: Vec<Contract>,
-    pub sets: Vec<Vec<Commitment>>,
+    pub sets: Vec<Commitments>,
     /// What each participant has been paid.
     pub paid: Vec<u64>,
     /// The deposits of stipulation and of every taken renewal.
     pub deposits_taken: u64,
 }
 
-fn commit(values: &[Value]) -> Vec<Commitment> {
-    values
-        .iter()
-        .map(|value| Commitment {
-            value: *value,
-            told: false,
-        })
-        .collect()
+/// `add`.
+#[inline(always)]
+fn sum(left: i64, right: i64) -> i64 {
+    rule!(left + right;
+        AddIsSub: left - right,
+        AddIsFirst: left,
+        AddIsSecond: right,
+        AddIn32Bits: i64::from((left + right) as i32),
+        AddStops: (left + right).min(VALUE as i64))
 }
 
-impl Expression {
-    /// The value, which may be negative; none if it names a secret that has none.
-    pub fn value(&self, secret: &impl Fn(usize) -> Option<i64>) -> Option<i64> {
-        Some(match self {
-            Expression::Constant(number) => *number as i64,
-            Expression::Secret(number) => secret(*number)?,
-            Expression::Add(left, right) => {
-                let (left, right) = (left.value(secret)?, right.value(secret)?);
-                rule!(left + right;
-                    AddIsSub: left - right,
-                    AddIsFirst: left,
-                    AddIsSecond: right,
-                    AddIn32Bits: i64::from((left + right) as i32),
-                    AddStops: (left + right).min(VALUE as i64))
-            }
-            Expression::Subtract(left, right) => {
-                let (left, right) = (left.value(secret)?, right.value(secret)?);
-                rule!(left - right;
-                    SubIsAdd: left + right,
-                    SubIsFirst: left,
-                    SubIsSecond: right,
-                    SubAbsolute: (left - right).abs(),
-                    SubClipped: (left - right).max(0),
-                    SubTurned: right - left)
-            }
-        })
+/// `sub`.
+#[inline(always)]
+fn difference(left: i64, right: i64) -> i64 {
+    rule!(left - right;
+        SubIsAdd: left + right,
+        SubIsFirst: left,
+        SubIsSecond: right,
+        SubAbsolute: (left - right).abs(),
+        SubClipped: (left - right).max(0),
+        SubTurned: right - left)
+}
+
+/// `and`.
+#[inline(always)]
+fn both(left: bool, right: bool) -> bool {
+    rule!(left & right; AndIsOr: left || right, AndIsLeft: left, AndIsRight: right)
+}
+
+/// `eq`.
+#[inline(always)]
+fn equal(left: i64, right: i64) -> bool {
+    rule!(left == right;
+        EqIsUnequal: left != right,
+        EqIsAtMost: left <= right,
+        EqIsAtLeast: left >= right,
+        EqOfSizes: left.abs() == right.abs())
+}
+
+/// `lt`.
+#[inline(always)]
+fn less(left: i64, right: i64) -> bool {
+    rule!(left < right;
+        LtIsGreater: left > right,
+        LtIsAtMost: left <= right,
+        LtIsUnequal: left != right,
+        LtUnsigned: (left as u64) < right as u64,
+        LtOfSizes: left.abs() < right.abs())
+}
+
+/// Values that wait for the term that asks for them; 0 and 1 are those of conditions.
+struct Waiting {
+    /// The value that was found last, and those before it.
+    last: i64,
+    before: [i64; CONDITION_FIELDS / 2 + 1],
+    count: usize,
+}
+
+impl Waiting {
+    #[inline(always)]
+    fn push(&mut self, value: i64) {
+        self.before[self.count] = self.last;
+        self.count += 1;
+        self.last = value;
+    }
+
+    /// Puts one value in the place of the last two, of which the one found last comes first in the text.
+    #[inline(always)]
+    fn join(&mut self, value: impl FnOnce(i64, i64) -> i64) {
+        self.count -= 1;
+        self.last = value(self.last, self.before[self.count]);
+    }
+}
+
+impl Condition<'_> {
+    /// Is it the one field `t`?
+    pub fn is_t(self) -> bool {
+        self.0 == [Term::True]
     }
 
     /// How many fields it has.
-    pub fn fields(&self) -> usize {
-        match self {
-            Expression::Constant(_) | Expression::Secret(_) => 2,
-            Expression::Add(left, right) | Expression::Subtract(left, right) => {
-                1 + left.fields() + right.fields()
-            }
-        }
-    }
-}
-
-impl Condition {
-    /// How many fields it has.
-    pub fn fields(&self) -> usize {
-        match self {
-            Condition::True => 1,
-            Condition::And(left, right) => 1 + left.fields() + right.fields(),
-            Condition::Not(part) => 1 + part.fields(),
-            Condition::Equal(left, right) | Condition::Less(left, right) => {
-                1 + left.fields() + right.fields()
-            }
-        }
+    pub fn fields(self) -> usize {
+        let numbered = |term: &&Term| matches!(term, Term::Constant(_) | Term::Secret(_));
+        self.0.len() + self.0.iter().filter(numbered).count()
     }
 
     /// Is it true?  None if it names a secret that has no value, also in a part that can't matter.
-    pub fn holds(&self, secret: &impl Fn(usize) -> Option<i64>) -> Option<bool> {
-        Some(match self {
-            Condition::True => rule!(true; TrueIsFalse: false),
-            Condition::And(left, right) => {
-                let (left, right) = (left.holds(secret)?, right.holds(secret)?);
-                rule!(left && right; AndIsOr: left || right, AndIsLeft: left, AndIsRight: right)
+    ///
+    /// From the last term to the first, so that the values that a term asks for are found before it.
+    #[inline]
+    pub fn holds(self, secret: impl Fn(usize) -> Option<i64>) -> Option<bool> {
+        let mut values = Waiting {
+            last: 0,
+            before: [0; CONDITION_FIELDS / 2 + 1],
+            count: 0,
+        };
+        for term in self.0.iter().rev() {
+            match *term {
+                Term::Constant(number) => values.push(i64::from(number)),
+                Term::Secret(number) => values.push(secret(usize::from(number))?),
+                Term::Add => values.join(sum),
+                Term::Subtract => values.join(difference),
+                Term::True => values.push(i64::from(rule!(true; TrueIsFalse: false))),
+                Term::And => values.join(|left, right| i64::from(both(left == 1, right == 1))),
+                Term::Not => {
+                    let part = values.last == 1;
+                    values.last = i64::from(rule!(!part; NotIsNothing: part));
+                }
+                Term::Equal => values.join(|left, right| i64::from(equal(left, right))),
+                Term::Less => values.join(|left, right| i64::from(less(left, right))),
             }
-            Condition::Not(part) => {
-                let part = part.holds(secret)?;
-                rule!(!part; NotIsNothing: part)
-            }
-            Condition::Equal(left, right) => {
-                let (left, right) = (left.value(secret)?, right.value(secret)?);
-                rule!(left == right;
-                    EqIsUnequal: left != right,
-                    EqIsAtMost: left <= right,
-                    EqIsAtLeast: left >= right,
-                    EqOfSizes: left.abs() == right.abs())
-            }
-            Condition::Less(left, right) => {
-                let (left, right) = (left.value(secret)?, right.value(secret)?);
-                rule!(left < right;
-                    LtIsGreater: left > right,
-                    LtIsAtMost: left <= right,
-                    LtIsUnequal: left != right,
-                    LtUnsigned: (left as u64) < right as u64,
-                    LtOfSizes: left.abs() < right.abs())
-            }
-        })
+        }
+        Some(values.last == 1)
     }
 
     /// Does it count as `t` where a branch may be own: does it name no secret, and is it true?
-    pub fn counts(&self) -> bool {
-        let value = asking!(self.holds(&|_| None));
-        let true_with = |value: i64| self.holds(&|_| Some(value)) == Some(true);
+    pub fn counts(self) -> bool {
+        let value = asking!(self.holds(|_| None));
+        let true_with = |value: i64| self.holds(|_| Some(value)) == Some(true);
         rule!(value == Some(true);
-            OnlyT: *self == Condition::True,
+            OnlyT: self.is_t(),
             ComparedCountOnly: value == Some(true) && wrong::is_flat(self),
             SumsDoNotCount: value == Some(true) && !wrong::has_sums(self),
             LongestDoNotCount: value == Some(true) && self.fields() < CONDITION_FIELDS,
@@ -1605,8 +1951,8 @@ impl Condition {
             TrueForZeros: true_with(0),
             TrueForOnes: true_with(1),
             TrueForAll: [0, 1, 2, 9, VALUE as i64].into_iter().all(true_with),
-            TrueForTheirNumbers: self.holds(&|secret| Some(secret as i64)) == Some(true),
-            SecretZeroOverlooked: self.holds(&|it| (it == 0).then_some(0)) == Some(true),
+            TrueForTheirNumbers: self.holds(|secret| Some(secret as i64)) == Some(true),
+            SecretZeroOverlooked: self.holds(|it| (it == 0).then_some(0)) == Some(true),
             OneIsNamed: value == Some(true) && !wrong::has_one(self, false),
             OneOrAndIsNamed: value == Some(true) && !wrong::has_one(self, true),
             FalseAndDecides: wrong::lazily(self, [true, false]) == Some(true),
@@ -1629,26 +1975,26 @@ impl Ledger {
     /// The ledger at stipulation.
     pub fn stipulate(sheet: &Sheet, values: &[Value]) -> Ledger {
         let first = rule!(0; StipulatedAsTheLast: sheet.definitions.len() - 1);
-        let first = &sheet.definitions[first];
-        let deposits: u64 = rule!(first.deposits.iter().sum(); FirstDepositOnly: first.deposits[0]);
+        let deposits = sheet.deposits(first);
+        let deposits: u64 = rule!(deposits.iter().sum(); FirstDepositOnly: deposits[0]);
         let mut ledger = Ledger {
             time: 0,
-            contracts: Vec::new(),
-            sets: vec![commit(values)],
+            contracts: Vec::with_capacity(CONTRACTS_MADE),
+            sets: Vec::with_capacity(SETS_MADE),
             paid: vec![0; sheet.participants],
             deposits_taken: rule!(deposits; StipulationNotCounted: 0),
         };
-        ledger.add_contract(sheet, first.root, deposits, 0);
+        ledger.sets.push(Commitments::of(values));
+        ledger.add_contract(sheet.definitions[first].root, deposits, 0);
         ledger
     }
 
-    fn add_contract(&mut self, sheet: &Sheet, node: usize, balance: u64, set: usize) {
-        let count = sheet.nodes[node].branches.len();
+    fn add_contract(&mut self, node: usize, balance: u64, set: usize) {
         let made = Contract {
             node,
             balance,
             set,
-            signed: rule!(vec![0; count]; BornSigned: vec![u64::MAX; count]),
+            signed: [rule!(0; BornSigned: u32::MAX); BRANCHES_OF_A_NODE as usize],
             alive: true,
         };
         let free = rule!(None; NumbersGivenTwice: self.contracts.iter().position(|old| !old.alive));
@@ -1661,160 +2007,193 @@ impl Ledger {
     /// The branch of a contract, if there are such a contract and such a branch.
     fn branch<'s>(&self, sheet: &'s Sheet, contract: usize, branch: usize) -> Option<&'s Branch> {
         let contract = self.contracts.get(contract)?;
-        sheet.nodes[contract.node].branches.get(branch)
+        sheet.branches(contract.node).get(branch)
     }
 
     /// The same for a live contract.
+    #[inline(always)]
     fn live_branch<'s>(
         &self,
         sheet: &'s Sheet,
         contract: usize,
         branch: usize,
     ) -> Option<&'s Branch> {
-        self.branch(sheet, contract, branch)
-            .filter(|_| self.contracts[contract].alive)
+        let contract = self.contracts.get(contract)?;
+        if !contract.alive {
+            return None;
+        }
+        sheet.branches(contract.node).get(branch)
     }
 
     pub fn live_contracts(&self) -> usize {
-        self.contracts
-            .iter()
-            .filter(|contract| contract.alive)
-            .count()
+        let live = self.contracts.iter().filter(|contract| contract.alive);
+        live.count()
     }
 
-    /// The lowest number for which the event is refused, or none if it is taken.
-    pub fn refusal(&self, sheet: &Sheet, event: &Event) -> Option<u32> {
+    /// The lowest number for which the event is refused, or none if it is taken.  The values of a renewal
+    /// are among these.
+    pub fn refusal(&self, sheet: &Sheet, event: Event, values: &[Value]) -> Option<u32> {
         match event {
-            Event::Wait { delay } => lowest([(19, self.time + delay > limit!(Time, TIME))]),
+            Event::Wait { delay } => lowest!(19: self.time + delay > limit!(Time, TIME)),
             Event::Sign {
                 participant,
                 contract,
                 branch,
-            } => {
-                let signable = rule!(self.live_branch(sheet, *contract, *branch);
-                    DeadSigned: self.branch(sheet, *contract, *branch));
-                let Some(signable) = signable else {
-                    return Some(14);
-                };
-                let signed = self.contracts[*contract].signed[*branch];
-                let signer = rule!(signable.is_signed_by(*participant); AnyoneSigns: true);
-                let already = rule!(signed & number!(Signs, *participant) != 0;
-                    SignedTwice: false,
-                    SignedTwiceAfterOthers: signed == 1 << participant);
-                let early = rule!(false; SignedWhenOpen: signable.opens > self.time);
-                let of_kind = rule!(true; RenewalsNotSigned: !signable.is_renewal());
-                lowest([(14, !of_kind), (15, early), (16, !signer), (16, already)])
-            }
-            Event::Tell { set, secret } => {
-                let set = rule!(*set; ToldByContract: wrong::set_of(&self.contracts, *set));
-                let commitment = self.sets.get(set).and_then(|set| set.get(*secret));
-                let can_be_told = match commitment {
-                    Some(Commitment {
-                        value: Value::Number(_),
-                        told,
-                    }) => rule!(!told; ToldTwice: true),
-                    Some(_) => rule!(false; IllFormedTold: true),
-                    None => rule!(false; UnknownTold: true),
-                };
-                let live = rule!(true; DeadNotTold: wrong::set_lives(&self.contracts, set));
-                let known = rule!(true;
-                    UnknownSetIs14: set < self.sets.len(),
-                    UnknownSecretIs14: commitment.is_some());
-                lowest([(14, !known), (17, !can_be_told), (17, !live)])
-            }
+            } => self.sign_refusal(
+                sheet,
+                participant.into(),
+                contract as usize,
+                branch as usize,
+            ),
+            Event::Tell { set, secret } => self.tell_refusal(set as usize, secret as usize),
             Event::Fire { contract, branch } => {
-                let fired = rule!(self.live_branch(sheet, *contract, *branch);
-                    DeadFired: self.branch(sheet, *contract, *branch));
-                let Some(fired) = fired else {
-                    return Some(rule!(14; NoBranchIs16: 16));
-                };
-                // How many contracts the firing makes.
-                let parts = match &fired.action {
-                    Action::Withdraw { .. } => rule!(0; WithdrawalsMake: 1),
-                    Action::Split { parts } => rule!(parts.len(); SplitsMakeOne: 1),
-                    Action::Reveal { .. } => rule!(1; RevealsMakeNone: 0),
-                    Action::Renew { .. } => 0,
-                };
-                let early = rule!(fired.opens > self.time;
-                    FiredAfterOpening: fired.opens > 0 && fired.opens >= self.time,
-                    FiredEarly: false);
-                let (signers, signed) = (fired.signers, self.contracts[*contract].signed[*branch]);
-                let unsigned = rule!(signers & !signed != 0;
-                    OneSignerSuffices: signers != 0 && signers & signed == 0,
-                    FiredUnsigned: false);
-                let untold = !self.secrets_allow(*contract, &fired.action);
-                let made = rule!(self.contracts.len(); LiveCounted: self.live_contracts() - 1);
-                let no_room = made + parts > limit!(ContractsMade, CONTRACTS_MADE);
-                lowest([
-                    (14, fired.is_renewal()),
-                    (15, early),
-                    (16, unsigned),
-                    (17, untold),
-                    (19, no_room),
-                ])
+                self.fire_refusal(sheet, contract as usize, branch as usize)
             }
             Event::Renew {
                 contract,
                 branch,
-                values,
+                values: given,
             } => {
-                let renewed = rule!(self.live_branch(sheet, *contract, *branch);
-                    DeadRenewed: self.branch(sheet, *contract, *branch));
-                let Some(renewed) = renewed else {
-                    return Some(14);
-                };
-                let own = sheet.nodes[self.contracts[*contract].node].definition;
-                let number = match renewed.action {
-                    Action::Renew { definition } => definition,
-                    _ => own,
-                };
-                let definition = &sheet.definitions[number];
-                let early = rule!(renewed.opens > self.time;
-                    RenewedAfterOpening: renewed.opens > 0 && renewed.opens >= self.time,
-                    RenewedEarly: false);
-                let signers = rule!(renewed.signers; AllRenew: (1 << sheet.participants) - 1);
-                let signed = self.contracts[*contract].signed[*branch];
-                let unsigned = rule!(signers & !signed != 0;
-                    OneRenewerSuffices: signers != 0 && signers & signed == 0,
-                    RenewedUnsigned: false);
-                let secrets = rule!(definition.owners.len();
-                    ValuesOfTheOld: sheet.definitions[own].owners.len());
-                let wrong_count = rule!(values.len() != secrets;
-                    FewerValuesTaken: values.len() > secrets,
-                    MoreValuesTaken: values.len() < secrets);
-                let made = rule!(self.contracts.len(); LiveCounted: self.live_contracts() - 1);
-                let made = made + rule!(1; RenewalsMakeNone: 0);
-                let sets = rule!(self.sets.len(); EmptySetsNotCounted: wrong::filled(&self.sets));
-                let deposits: u64 = definition.deposits.iter().sum();
-                let taken = rule!(self.deposits_taken; HeldCounted: wrong::held(&self.contracts));
-                let too_much = taken + deposits > limit!(DepositsTaken, SATOSHI);
-                lowest([
-                    (14, !renewed.is_renewal()),
-                    (15, early),
-                    (16, unsigned),
-                    (18, wrong_count),
-                    (19, made > limit!(ContractsMade, CONTRACTS_MADE)),
-                    (19, sets + 1 > limit!(SetsMade, SETS_MADE)),
-                    (19, too_much),
-                ])
+                let given = given.of(values).len();
+                self.renew_refusal(sheet, contract as usize, branch as usize, given)
             }
         }
     }
 
+    #[inline(always)]
+    fn sign_refusal(
+        &self,
+        sheet: &Sheet,
+        participant: usize,
+        contract: usize,
+        branch: usize,
+    ) -> Option<u32> {
+        let signable = rule!(self.live_branch(sheet, contract, branch);
+            DeadSigned: self.branch(sheet, contract, branch));
+        let Some(signable) = signable else {
+            return Some(14);
+        };
+        let signed = u64::from(self.contracts[contract].signed[branch]);
+        let signer = rule!(signable.is_signed_by(participant); AnyoneSigns: true);
+        let already = rule!(signed & number!(Signs, participant) != 0;
+            SignedTwice: false,
+            SignedTwiceAfterOthers: signed == 1 << participant);
+        let early = rule!(false; SignedWhenOpen: signable.opens > self.time);
+        let of_kind = rule!(true; RenewalsNotSigned: !signable.is_renewal());
+        lowest!(14: !of_kind, 15: early, 16: !signer, 16: already)
+    }
+
+    #[inline(always)]
+    fn tell_refusal(&self, set: usize, secret: usize) -> Option<u32> {
+        let set = rule!(set; ToldByContract: wrong::set_of(&self.contracts, set));
+        let commitments = self.sets.get(set);
+        let value = commitments.and_then(|set| set.values.get(secret));
+        let told = commitments.is_some_and(|set| set.is_told(secret));
+        let can_be_told = match value {
+            Some(Value::Number(_)) => rule!(!told; ToldTwice: true),
+            Some(Value::IllFormed) => rule!(false; IllFormedTold: true),
+            None => rule!(false; UnknownTold: true),
+        };
+        let live = rule!(true; DeadNotTold: wrong::set_lives(&self.contracts, set));
+        let known = rule!(true;
+            UnknownSetIs14: set < self.sets.len(),
+            UnknownSecretIs14: value.is_some());
+        lowest!(14: !known, 17: !can_be_told, 17: !live)
+    }
+
+    #[inline(always)]
+    fn fire_refusal(&self, sheet: &Sheet, contract: usize, branch: usize) -> Option<u32> {
+        let fired = rule!(self.live_branch(sheet, contract, branch);
+            DeadFired: self.branch(sheet, contract, branch));
+        let Some(fired) = fired else {
+            return Some(rule!(14; NoBranchIs16: 16));
+        };
+        // How many contracts the firing makes.
+        let parts = match fired.action {
+            Action::Withdraw { .. } => rule!(0; WithdrawalsMake: 1),
+            Action::Split { parts } => rule!(usize::from(parts.count); SplitsMakeOne: 1),
+            Action::Reveal { .. } => rule!(1; RevealsMakeNone: 0),
+            Action::Renew { .. } => 0,
+        };
+        let early = rule!(fired.opens > self.time;
+            FiredAfterOpening: fired.opens > 0 && fired.opens >= self.time,
+            FiredEarly: false);
+        let (signers, signed) = (fired.signers, self.contracts[contract].signed[branch]);
+        let unsigned = rule!(signers & !signed != 0;
+            OneSignerSuffices: signers != 0 && signers & signed == 0,
+            FiredUnsigned: false);
+        let made = rule!(self.contracts.len(); LiveCounted: self.live_contracts() - 1);
+        let no_room = made + parts > limit!(ContractsMade, CONTRACTS_MADE);
+        lowest!(
+            14: fired.is_renewal(),
+            15: early,
+            16: unsigned,
+            17: !self.secrets_allow(sheet, contract, &fired.action),
+            19: no_room)
+    }
+
+    /// `given` is the count of values.
+    #[inline(always)]
+    fn renew_refusal(
+        &self,
+        sheet: &Sheet,
+        contract: usize,
+        branch: usize,
+        given: usize,
+    ) -> Option<u32> {
+        let renewed = rule!(self.live_branch(sheet, contract, branch);
+            DeadRenewed: self.branch(sheet, contract, branch));
+        let Some(renewed) = renewed else {
+            return Some(14);
+        };
+        let own = sheet.nodes[self.contracts[contract].node].definition;
+        let definition = match renewed.action {
+            Action::Renew { definition } => definition,
+            _ => own,
+        };
+        let early = rule!(renewed.opens > self.time;
+            RenewedAfterOpening: renewed.opens > 0 && renewed.opens >= self.time,
+            RenewedEarly: false);
+        let signers = rule!(renewed.signers; AllRenew: (1 << sheet.participants) - 1);
+        let signed = self.contracts[contract].signed[branch];
+        let unsigned = rule!(signers & !signed != 0;
+            OneRenewerSuffices: signers != 0 && signers & signed == 0,
+            RenewedUnsigned: false);
+        let secrets = rule!(definition; ValuesOfTheOld: own);
+        let secrets = sheet.definitions[secrets].owners.len();
+        let wrong_count = rule!(given != secrets;
+            FewerValuesTaken: given > secrets,
+            MoreValuesTaken: given < secrets);
+        let made = rule!(self.contracts.len(); LiveCounted: self.live_contracts() - 1);
+        let made = made + rule!(1; RenewalsMakeNone: 0);
+        let sets = rule!(self.sets.len(); EmptySetsNotCounted: wrong::filled(&self.sets));
+        let deposits = || sheet.deposits(definition).iter().sum::<u64>();
+        let taken = rule!(self.deposits_taken; HeldCounted: wrong::held(&self.contracts));
+        lowest!(
+            14: !renewed.is_renewal(),
+            15: early,
+            16: unsigned,
+            18: wrong_count,
+            19: made > limit!(ContractsMade, CONTRACTS_MADE),
+            19: sets + 1 > limit!(SetsMade, SETS_MADE),
+            19: taken + deposits() > limit!(DepositsTaken, SATOSHI))
+    }
+
     /// For `r`: are all listed secrets told and the condition true, in the contract's own set?
     /// Nothing is asked of `w` and `s`.
-    fn secrets_allow(&self, contract: usize, action: &Action) -> bool {
+    fn secrets_allow(&self, sheet: &Sheet, contract: usize, action: &Action) -> bool {
         let Action::Reveal {
             secrets, condition, ..
         } = action
         else {
             return true;
         };
+        let condition = sheet.condition(*condition);
         let set = rule!(self.contracts[contract].set;
             FirstSetServes: 0,
             NewestSetServes: self.sets.len() - 1);
         let set = &self.sets[set];
-        let told = |secret: &usize| set[*secret].told;
+        let told = |secret: &u8| set.is_told(usize::from(*secret));
         let all_told = rule!(secrets.iter().all(told);
             UntoldServe: true,
             OneToldSuffices: secrets.iter().any(told),
@@ -1823,23 +2202,25 @@ impl Ledger {
             UntoldServeAnyway: condition.counts() || secrets.iter().all(told),
             OldSetsServe: secrets.iter().all(|secret| wrong::told_anywhere(&self.sets, *secret)));
         // A condition names only listed secrets, and only a number can be told.
-        let value = |secret: usize| match set[secret].value {
+        let value = |secret: usize| match set.values[secret] {
             Value::Number(number) => Some(number as i64),
             Value::IllFormed => rule!(unreachable!("an ill-formed commitment was told");
                 IllFormedTold: Some(0),
                 UntoldServe: Some(0)),
         };
-        let constant = || condition.holds(&|_| None).is_some();
+        let constant = || condition.holds(|_| None).is_some();
         all_told
-            && rule!(condition.holds(&value) == Some(true);
+            && rule!(condition.holds(value) == Some(true);
                 ConditionsNotAsked: true,
-                ConstantsNotAsked: constant() || condition.holds(&value) == Some(true),
-                ConstantsRefused: !constant() && condition.holds(&value) == Some(true))
+                ConstantsNotAsked: constant() || condition.holds(value) == Some(true),
+                ConstantsRefused: !constant() && condition.holds(value) == Some(true))
     }
 
-    /// Takes the event, or gives the number for which it is refused and leaves the ledger the same.
-    pub fn step(&mut self, sheet: &Sheet, event: &Event) -> Result<(), u32> {
-        if let Some(number) = self.refusal(sheet, event) {
+    /// Takes the event, or gives the number for which it is refused and leaves the ledger the same.  The
+    /// values of a renewal are among these.
+    #[inline]
+    pub fn step(&mut self, sheet: &Sheet, event: Event, values: &[Value]) -> Result<(), u32> {
+        if let Some(number) = self.refusal(sheet, event, values) {
             rule!(();
                 RefusedFiringsKill: wrong::kill(&mut self.contracts, event),
                 RefusedWaitsMove: if let Event::Wait { .. } = event { self.time = TIME });
@@ -1851,25 +2232,29 @@ impl Ledger {
                 participant,
                 contract,
                 branch,
-            } => {
-                let signed = rule!(number!(Signs, *participant); OneSignsForAll: u64::MAX);
-                self.contracts[*contract].signed[*branch] |= signed;
-                rule!((); SignsEveryBranch: self.contracts[*contract].signed.fill(signed));
-            }
+            } => self.sign(participant.into(), contract as usize, branch as usize),
             Event::Tell { set, secret } => {
-                self.sets[*set][*secret].told = true;
+                self.sets[set as usize].told |= 1 << secret;
                 rule!(();
-                    TellsEverySecret: wrong::tell_every_secret(&mut self.sets[*set]),
-                    TellsInEverySet: wrong::tell_in_every_set(&mut self.sets, *secret));
+                    TellsEverySecret: self.sets[set as usize].told = u32::MAX,
+                    TellsInEverySet: wrong::tell_in_every_set(&mut self.sets, secret));
             }
-            Event::Fire { contract, branch } => self.fire(sheet, *contract, *branch),
+            Event::Fire { contract, branch } => {
+                self.fire(sheet, contract as usize, branch as usize)
+            }
             Event::Renew {
                 contract,
                 branch,
-                values,
-            } => self.renew(sheet, *contract, *branch, values),
+                values: given,
+            } => self.renew(sheet, contract as usize, branch as usize, given.of(values)),
         }
         Ok(())
+    }
+
+    fn sign(&mut self, participant: usize, contract: usize, branch: usize) {
+        let signed = rule!(number!(Signs, participant) as u32; OneSignsForAll: u32::MAX);
+        self.contracts[contract].signed[branch] |= signed;
+        rule!((); SignsEveryBranch: self.contracts[contract].signed.fill(signed));
     }
 
     fn fire(&mut self, sheet: &Sheet, contract: usize, branch: usize) {
@@ -1879,71 +2264,75 @@ impl Ledger {
         self.contracts[contract].alive = rule!(false; FiredLivesOn: true);
         let set = rule!(set; PartsOfTheFirstSet: 0);
         let before = self.contracts.len();
-        match &sheet.nodes[node].branches[branch].action {
+        match sheet.branches(node)[branch].action {
             Action::Withdraw { to } => {
-                let to = rule!(*to; PaidToTheFirst: 0);
+                let to = rule!(to; PaidToTheFirst: 0);
                 self.paid[to] = rule!(self.paid[to]; PaidAnew: 0) + balance;
             }
-            Action::Reveal { next, .. } => self.add_contract(sheet, *next, balance, set),
-            Action::Split { parts } => {
-                let weights: u64 = parts.iter().map(|part| part.weight).sum();
-                let weights = rule!(weights;
-                    WeightsPerMille: 1_000,
-                    WeightsAlike: parts.len() as u64);
-                let mut shares: Vec<u64> = parts
-                    .iter()
-                    .map(|part| {
-                        let weight = rule!(part.weight; WeightsAlike: 1);
-                        let product = u128::from(balance) * u128::from(weight);
-                        let weights = u128::from(weights);
-                        let share = rule!(product / weights;
-                            SharesRoundedUp: product.div_ceil(weights),
-                            SharesRounded: (product + weights / 2) / weights,
-                            SharesDividedFirst: u128::from(balance) / weights * u128::from(weight));
-                        share as u64
-                    })
-                    .collect();
-                rule!((); SharesOfTheRest: shares = wrong::shares_of_the_rest(balance, parts));
-                let remainder = balance.wrapping_sub(shares.iter().sum::<u64>());
-                let last = parts.len() - 1;
-                let weighty = || parts.iter().rposition(|part| part.weight > 0);
-                let taker = rule!(last;
-                    RemainderToTheFirst: 0,
-                    RemainderToTheWeighty: weighty().unwrap_or(last));
-                shares[taker] = shares[taker].wrapping_add(rule!(remainder; RemainderLost: 0));
-                rule!((); PartsBackwards: shares.reverse());
-                for (place, share) in shares.into_iter().enumerate() {
-                    let node = parts[rule!(place; PartsBackwards: last - place)].node;
-                    self.add_contract(sheet, node, share, set);
-                }
-            }
+            Action::Reveal { next, .. } => self.add_contract(next, balance, set),
+            Action::Split { parts } => self.split(sheet.parts(parts), balance, set),
             Action::Renew { .. } => unreachable!("a renewal was fired"),
         }
         rule!((); SignaturesKept: wrong::keep_signatures(&mut self.contracts, contract, before));
+    }
+
+    /// Parts a balance by weight.
+    fn split(&mut self, parts: &[Part], balance: u64, set: usize) {
+        let mut shares = shares(parts, balance);
+        let remainder = balance.wrapping_sub(shares.iter().sum::<u64>());
+        let last = parts.len() - 1;
+        let weighty = || parts.iter().rposition(|part| part.weight > 0);
+        let taker = rule!(last;
+            RemainderToTheFirst: 0,
+            RemainderToTheWeighty: weighty().unwrap_or(last));
+        shares[taker] = shares[taker].wrapping_add(rule!(remainder; RemainderLost: 0));
+        for place in 0..parts.len() {
+            let place = rule!(place; PartsBackwards: last - place);
+            self.add_contract(parts[place].node, shares[place], set);
+        }
     }
 
     fn renew(&mut self, sheet: &Sheet, contract: usize, branch: usize, values: &[Value]) {
         let Contract {
             node, balance, set, ..
         } = self.contracts[contract];
-        let Action::Renew { definition } = sheet.nodes[node].branches[branch].action else {
+        let Action::Renew { definition } = sheet.branches(node)[branch].action else {
             unreachable!("a branch of another kind was renewed");
         };
         let old = sheet.nodes[node].definition;
         let to = rule!(definition; RenewedAsTheFirst: 0, RenewedAsTheOld: old);
         let from = rule!(definition; DepositsOfTheFirst: 0, DepositsOfTheOld: old);
-        let deposits: u64 = sheet.definitions[from].deposits.iter().sum();
+        let deposits: u64 = sheet.deposits(from).iter().sum();
         let before = self.contracts.len();
         self.contracts[contract].alive = rule!(false; RenewedLivesOn: true);
         self.deposits_taken += rule!(deposits; RenewalsNotCounted: 0);
-        self.sets.push(commit(values));
+        self.sets.push(Commitments::of(values));
         rule!((); RenewedStaysTold: wrong::stay_told(&mut self.sets, set));
         let set = rule!(self.sets.len() - 1; OldSetKept: set);
         let balance = rule!(balance + deposits; NoDepositsAdded: balance, BalanceLeftOut: deposits);
-        self.add_contract(sheet, sheet.definitions[to].root, balance, set);
+        self.add_contract(sheet.definitions[to].root, balance, set);
         rule!(();
             RenewedSignaturesKept: wrong::keep_signatures(&mut self.contracts, contract, before));
     }
+}
+
+/// The share of each part before the remainder, and zeros past the last.
+fn shares(parts: &[Part], balance: u64) -> [u64; PARTS as usize] {
+    let weights: u64 = parts.iter().map(|part| part.weight).sum();
+    let weights = rule!(weights;
+        WeightsPerMille: 1_000,
+        WeightsAlike: parts.len() as u64);
+    let mut shares = [0; PARTS as usize];
+    for (share, part) in shares.iter_mut().zip(parts) {
+        let weight = rule!(part.weight; WeightsAlike: 1);
+        // All satoshi times the largest weight are below 2^64.
+        let product = balance * weight;
+        *share = rule!(product / weights;
+            SharesRoundedUp: product.div_ceil(weights),
+            SharesRounded: (product + weights / 2) / weights,
+            SharesDividedFirst: balance / weights * weight);
+    }
+    rule!(shares; SharesOfTheRest: wrong::shares_of_the_rest(balance, parts))
 }
 
 // ---------------------------------------------------------------------------------------------
@@ -1985,17 +2374,63 @@ impl From<Refusal> for Reply {
     }
 }
 
+/// Lines as they are put into a lent buffer; what does not fit is only counted.
+pub struct Text<'b> {
+    buffer: &'b mut [u8],
+    length: usize,
+}
+
+impl Text<'_> {
+    #[inline(always)]
+    fn put(&mut self, bytes: &[u8]) {
+        let end = self.length + bytes.len();
+        if let Some(places) = self.buffer.get_mut(self.length..end) {
+            places.copy_from_slice(bytes);
+        }
+        self.length = end;
+    }
+
+    #[inline(always)]
+    fn put_number(&mut self, mut number: u64) {
+        let digits = number.checked_ilog10().unwrap_or(0) as usize + 1;
+        let end = self.length + digits;
+        if let Some(places) = self.buffer.get_mut(self.length..end) {
+            for place in places.iter_mut().rev() {
+                *place = b'0' + (number % 10) as u8;
+                number /= 10;
+            }
+        }
+        self.length = end;
+    }
+
+    /// A word and numbers.
+    #[inline(always)]
+    fn line<const N: usize>(&mut self, word: &str, numbers: [u64; N]) {
+        self.put(word.as_bytes());
+        for number in numbers {
+            self.put_field(number);
+        }
+        self.put(b"\n");
+    }
+
+    /// A number behind a comma.
+    #[inline(always)]
+    fn put_field(&mut self, number: u64) {
+        self.put(b",");
+        self.put_number(number);
+    }
+}
+
 /// A place of the row buffer: node, branch, rank.
 pub type Place = (u64, u64, u64);
 
-fn buffer(rows: &[Row]) -> Vec<Place> {
-    rows.iter()
-        .map(|row| (row.node as u64, row.branch as u64, row.rank))
-        .collect()
+/// Puts rows into the first places, and gives their count.
+fn hold(rows: &[Row], places: &mut [Place]) -> usize {
+    for (place, row) in places[..rows.len()].iter_mut().zip(rows) {
+        *place = (row.node as u64, row.branch as u64, row.rank);
+    }
+    rows.len()
 }
-
-/// What is printed, and what the row buffer holds afterwards before its zeros.
-type Printed = (String, Vec<Place>);
 
 /// Answers a request as the program does, which lends as much as any request asks for.
 pub fn judge(request: &[u8]) -> (Reply, Vec<Place>) {
@@ -2006,8 +2441,15 @@ pub fn judge(request: &[u8]) -> (Reply, Vec<Place>) {
 /// is what the row buffer holds afterwards (it is zero past that): the rows of `make` in rising node
 /// order, those of an accepted `check` as given, those of `makeall` by participant.
 pub fn judge_lent(request: &[u8], places: usize, bytes: usize) -> (Reply, Vec<Place>) {
-    match answer(request, places, bytes) {
-        Ok((text, held)) => (Reply::Text(text), held),
+    let mut rows = vec![Place::default(); places];
+    let mut text = vec![0; bytes];
+    match answer(request, &mut rows, &mut text) {
+        Ok(Held { places, bytes }) => {
+            rows.truncate(places);
+            text.truncate(bytes);
+            let text = String::from_utf8_lossy(&text).into_owned();
+            (Reply::Text(text), rows)
+        }
         Err(refusal) => {
             let reply = refusal.into();
             let reply = rule!(reply; JudgedWhileReading: wrong::judged_before(request, reply));
@@ -2016,8 +2458,15 @@ pub fn judge_lent(request: &[u8], places: usize, bytes: usize) -> (Reply, Vec<Pl
     }
 }
 
+/// So many places and bytes from the first on hold an answer.
+struct Held {
+    places: usize,
+    bytes: usize,
+}
+
 /// 1, then short buffers, then reading, then the places that `makeall` asks for, then judging.
-fn answer(request: &[u8], places: usize, bytes: usize) -> Result<Printed, Refusal> {
+fn answer(request: &[u8], rows: &mut [Place], text: &mut [u8]) -> Result<Held, Refusal> {
+    let (places, bytes) = (rows.len(), text.len());
     let too_long = request.len() > limit!(RequestBytes, REQUEST_BYTES);
     let short = places < limit!(LentRows, ROWS) || bytes < limit!(LentText, TEXT_BYTES);
     let short = rule!(short;
@@ -2026,170 +2475,109 @@ fn answer(request: &[u8], places: usize, bytes: usize) -> Result<Printed, Refusa
     if short && rule!(!too_long; ShortBuffersFirst: true) {
         return Err(nowhere(7));
     }
-    let Request { sheet, part, line } = read(request)?;
-    let all = part == LastPart::MakeAll;
+    let request = read(request)?;
+    let all = matches!(request.part, LastPart::MakeAll);
     let all = rule!(all;
         FewPlacesForAnyWord: true,
-        FewPlacesForWhy: all || matches!(part, LastPart::Why { .. }));
+        FewPlacesForWhy: all || matches!(request.part, LastPart::Why { .. }));
     let asked = rule!(limit!(LentAllRows, ALL_ROWS);
-        FewPlacesByCount: ROWS * sheet.participants,
+        FewPlacesByCount: ROWS * request.sheet.participants,
         FewPlacesTaken: ROWS);
     let few = all && places < asked;
     if rule!(few; ShortBuffersAfter: few || places < ROWS || bytes < TEXT_BYTES) {
-        let told = nowhere(7);
+        let (told, line) = (nowhere(7), request.line);
         return Err(rule!(told; FewPlacesAtTheWord: Refusal { line, field: 1, ..told }));
     }
-    judge_part(&sheet, &part, line)
+    let mut text = Text {
+        buffer: text,
+        length: 0,
+    };
+    let places = judge_part(&request, rows, &mut text)?;
+    let bytes = text.length;
+    Ok(Held { places, bytes })
 }
 
-/// Judges the last part, which begins on this line.
-fn judge_part(sheet: &Sheet, part: &LastPart, line: usize) -> Result<Printed, Refusal> {
+/// Judges the last part, and gives how many places hold rows.
+fn judge_part(request: &Request, places: &mut [Place], text: &mut Text) -> Result<usize, Refusal> {
+    let Request { sheet, part, line } = request;
     match part {
         LastPart::Make { participant } => {
-            let (text, rows) = rule!(made(sheet, *participant);
-                OnlyTInMake: made(&wrong::only_t(sheet), *participant));
-            let held = buffer(&rows);
-            let held = rule!(held; HeldFalling: held.into_iter().rev().collect());
-            Ok((text, held))
+            let count = rule!(made(sheet, *participant, places, text);
+                OnlyTInMake: made(&wrong::only_t(sheet), *participant, places, text));
+            rule!((); HeldFalling: places[..count].reverse());
+            Ok(count)
         }
-        LastPart::MakeAll => Ok(made_for_all(sheet)),
+        LastPart::MakeAll => Ok(made_for_all(sheet, places, text)),
         LastPart::Why { participant } => {
-            let told = rule!(why(sheet, *participant);
-                OnlyTInWhy: why(&wrong::only_t(sheet), *participant));
-            let held = rule!(Vec::new(); WhyHoldsRows: buffer(&made(sheet, *participant).1));
-            Ok((told, held))
+            rule!(why(sheet, *participant, text);
+                OnlyTInWhy: why(&wrong::only_t(sheet), *participant, text));
+            Ok(
+                rule!(0; WhyHoldsRows: make(sheet, *participant).map_or(0, |rows| hold(&rows, places))),
+            )
         }
         LastPart::Check { participant, rows } => {
-            rule!(check(sheet, *participant, rows, line);
-                OnlyTInCheck: check(&wrong::only_t(sheet), *participant, rows, line),
-                RowsSorted: check(sheet, *participant, &wrong::sorted(rows), line))?;
-            let given = rule!(String::new();
-                CheckPrintsRows: wrong::rows_as_text(rows.iter().copied()));
-            Ok((given + &liquid(sheet, *participant, rows), buffer(rows)))
+            rule!(check(sheet, *participant, rows, *line);
+                OnlyTInCheck: check(&wrong::only_t(sheet), *participant, rows, *line),
+                RowsSorted: check(sheet, *participant, &wrong::sorted(rows), *line))?;
+            rule!((); CheckPrintsRows: rows.iter().for_each(|row| put_row(sheet, row, text)));
+            put_liquid(sheet, *participant, rows, text);
+            Ok(hold(rows, places))
         }
-        LastPart::Play { values, events } => Ok((play(sheet, values, events, line), Vec::new())),
+        LastPart::Play(play) => {
+            put_play(sheet, play, *line, text);
+            Ok(0)
+        }
     }
 }
 
-/// The lines of `make`, and its rows; with `frozen` there are none.
-type Made = (String, Vec<Row>);
-
-/// What `make` answers.
-fn made(sheet: &Sheet, participant: usize) -> Made {
-    verdict(sheet, participant, make(sheet, participant))
+/// The lines of `make`, and its rows, of which there are none with `frozen`; gives their count.
+fn made(sheet: &Sheet, participant: usize, places: &mut [Place], text: &mut Text) -> usize {
+    made_where(sheet, participant, &reached(sheet), places, text)
 }
 
-/// The same, from the rows or the lowest reached node with no exit.
-fn verdict(sheet: &Sheet, participant: usize, found: Result<Vec<Row>, usize>) -> Made {
-    match found {
+/// The same where it is known which nodes are reached.
+fn made_where(
+    sheet: &Sheet,
+    participant: usize,
+    reached: &[bool],
+    places: &mut [Place],
+    text: &mut Text,
+) -> usize {
+    match make_where(sheet, participant, reached) {
         Ok(rows) => {
-            let mut text = String::new();
-            for Row { node, branch, rank } in &rows {
-                let definition = sheet.nodes[*node].definition;
-                let node = rule!(*node;
-                    NumberedFrom1: node + 1,
-                    NumberedByDefinition: node - sheet.definitions[definition].root,
-                    NumberedPartsFirst: wrong::parts_first(sheet, *node));
-                text += &format!("row,{node},{branch},{rank}\n");
+            for row in &rows {
+                put_row(sheet, row, text);
             }
-            text += &liquid(sheet, participant, &rows);
-            (text, rows)
+            put_liquid(sheet, participant, &rows, text);
+            hold(&rows, places)
         }
         Err(node) => {
             let found = || exits(sheet, participant).into_iter().flatten();
-            let rows = rule!(String::new(); FrozenWithRows: wrong::rows_as_text(found()));
-            let text = format!("{rows}frozen,{participant},{node}\n");
-            let held = rule!(Vec::new(); FrozenHoldsRows: found().collect());
-            (text, held)
+            rule!((); FrozenWithRows: found().for_each(|row| put_plainly(&row, text)));
+            text.line("frozen", [participant as u64, node as u64]);
+            rule!(0; FrozenHoldsRows: hold(&found().collect::<Vec<_>>(), places))
         }
     }
 }
 
-/// What `make` answers for participants 0 to K - 1, in that order.
-fn made_for_all(sheet: &Sheet) -> Printed {
-    let count = rule!(sheet.participants;
-        AllButTheLast: sheet.participants - 1,
-        AllAndOneMore: sheet.participants + 1,
-        AllSixteen: PARTICIPANTS as usize);
-    let made = |who: usize| {
-        let plain = || made(&wrong::only_t(sheet), who);
-        rule!(made(sheet, who);
-            OnlyTInMakeAll: plain(),
-            OnlyTPastTheFirst: if who > 0 { plain() } else { made(sheet, who) },
-            OnlyTForTheFirst: if who == 0 { plain() } else { made(sheet, who) })
-    };
-    let mut answers: Vec<Made> = (0..count).map(made).collect();
-    rule!(();
-        AllBackwards: answers.reverse(),
-        AllEndAtFrozen: answers.truncate(wrong::up_to_frozen(&answers)),
-        AllFrozenIfOne: wrong::freeze_all(&mut answers),
-        AllFrozenLeftOut: answers.retain(|(_, rows)| !rows.is_empty()),
-        AllForTheFirst: wrong::first_for_all(&mut answers),
-        AllRowsCounted: wrong::count_so_far(&mut answers));
-    let lines = answers.iter().map(|(lines, _)| lines.as_str());
-    let text = rule!(lines.collect();
-        AllRowsFirst: wrong::rows_first(lines),
-        AllVerdictsOnly: wrong::lines_with(lines, |line| !line.starts_with("row")),
-        AllRowsOnly: wrong::lines_with(lines, |line| line.starts_with("row")));
-    (text, places_for_all(sheet, &answers))
+/// A `row` line.
+#[inline(always)]
+fn put_row(sheet: &Sheet, row: &Row, text: &mut Text) {
+    let root = || sheet.definitions[sheet.nodes[row.node].definition].root;
+    let node = rule!(row.node;
+        NumberedFrom1: row.node + 1,
+        NumberedByDefinition: row.node - root(),
+        NumberedPartsFirst: wrong::parts_first(sheet, row.node));
+    put_plainly(&Row { node, ..*row }, text);
 }
 
-/// The rows of participant p stand from place 512 x p on, with zeros past them.
-fn places_for_all(sheet: &Sheet, answers: &[Made]) -> Vec<Place> {
-    let each = limit!(PlacesEach, ROWS);
-    let mut places = vec![Place::default(); ALL_ROWS];
-    for (participant, (_, rows)) in answers.iter().enumerate() {
-        let first = rule!(each * participant;
-            PlacesFromTheFirst: 0,
-            PlacesBackwards: each * (answers.len() - 1 - participant),
-            PlacesByParticipants: ALL_ROWS / sheet.participants * participant,
-            PlacesByNodes: sheet.nodes.len() * participant,
-            PlacesTogether: wrong::rows_before(answers, participant),
-            FrozenWithoutPlaces: each * wrong::liquid_before(answers, participant));
-        places[first..first + rows.len()].copy_from_slice(&buffer(rows));
-    }
-    let frozen = answers.iter().any(|(_, rows)| rows.is_empty());
-    rule!((); FrozenClearsAll: if frozen { places.clear() });
-    places
-}
-
-/// Answers a request into the lent buffers, of which every place and every byte is written.
-pub fn call(request: &[u8], rows: &mut [Place], text: &mut [u8]) -> Answer {
-    let (reply, held) = judge_lent(request, rows.len(), text.len());
-    let printed = match &reply {
-        Reply::Text(printed) => printed.as_str(),
-        Reply::Refused { .. } => "",
-    };
-    let refused = printed.is_empty();
-    let why = || !refused && wrong::asks_why(request);
-    rule!(fill(rows, &held);
-        WhyRowsKept: wrong::fill_but(rows, &held, |_| why()),
-        WhyLiquidRowsKept: wrong::fill_but(rows, &held, |_| why() && printed.starts_with("liquid")),
-        WhyPlacesKept: wrong::fill_but(rows, &held, |place| why() && place >= ROWS),
-        PastRowsKept: wrong::fill_but(rows, &held, wrong::past_rows(&held)),
-        FrozenPlacesKept: wrong::fill_but(rows, &held, wrong::frozen_places(&held, printed)),
-        OtherPlacesKept: wrong::fill_but(rows, &held, wrong::other_places(printed)),
-        FarPlacesKept: wrong::fill_but(rows, &held, |place| place >= ALL_ROWS),
-        RefusedRowsKept: wrong::fill_but(rows, &held, |_| refused),
-        RefusedPlacesKept: wrong::fill_but(rows, &held, |place| refused && place >= ROWS),
-        ShortRowsKept: if rows.len() >= ROWS { fill(rows, &held) });
-    let printed = printed.as_bytes();
-    rule!(fill(text, printed);
-        PastTextKept: text[..printed.len()].copy_from_slice(printed),
-        RefusedTextKept: if !refused { fill(text, printed) },
-        ShortTextKept: if text.len() >= TEXT_BYTES { fill(text, printed) });
-    reply.into()
-}
-
-/// What a buffer holds, as far as it reaches, and zeros past it.
-fn fill<T: Copy + Default>(buffer: &mut [T], held: &[T]) {
-    let length = held.len().min(buffer.len());
-    buffer[..length].copy_from_slice(&held[..length]);
-    buffer[length..].fill(T::default());
+#[inline(always)]
+fn put_plainly(row: &Row, text: &mut Text) {
+    text.line("row", [row.node as u64, row.branch as u64, row.rank]);
 }
 
 /// The `liquid` line: participant, count of rows, rank of node 0.
-fn liquid(sheet: &Sheet, participant: usize, rows: &[Row]) -> String {
+fn put_liquid(sheet: &Sheet, participant: usize, rows: &[Row], text: &mut Text) {
     let root = sheet.definitions[0].root;
     let row = rows.iter().find(|row| row.node == root);
     let rank = rule!(row; RankOfTheLastRow: rows.last()).map_or(0, |row| row.rank);
@@ -2200,36 +2588,134 @@ fn liquid(sheet: &Sheet, participant: usize, rows: &[Row]) -> String {
     let count = rule!(rows.len();
         ReachedRowsCounted: rows.iter().filter(reached).count(),
         NodesCounted: sheet.nodes.len());
-    format!("liquid,{participant},{count},{rank}\n")
+    text.line("liquid", [participant as u64, count as u64, rank]);
+}
+
+/// What `make` answers for participants 0 to K - 1, in that order.  The rows of participant p stand from
+/// place 512 x p on, with zeros past them.
+fn made_for_all(sheet: &Sheet, places: &mut [Place], text: &mut Text) -> usize {
+    let count = rule!(sheet.participants;
+        AllButTheLast: sheet.participants - 1,
+        AllAndOneMore: sheet.participants + 1,
+        AllSixteen: PARTICIPANTS as usize);
+    let each = limit!(PlacesEach, ROWS);
+    let reached = reached(sheet);
+    places[..ALL_ROWS].fill(Place::default());
+    for participant in 0..count {
+        let first = rule!(each * participant;
+            PlacesFromTheFirst: 0,
+            PlacesBackwards: each * (count - 1 - participant),
+            PlacesByParticipants: ALL_ROWS / sheet.participants * participant,
+            PlacesByNodes: sheet.nodes.len() * participant,
+            PlacesTogether: wrong::lines_so_far(text, "row"),
+            FrozenWithoutPlaces: each * wrong::lines_so_far(text, "liquid"));
+        let places = &mut places[first..];
+        let plainly = rule!(false;
+            OnlyTInMakeAll: true,
+            OnlyTPastTheFirst: participant > 0,
+            OnlyTForTheFirst: participant == 0);
+        if plainly {
+            made(&wrong::only_t(sheet), participant, places, text);
+        } else {
+            made_where(sheet, participant, &reached, places, text);
+        }
+    }
+    wrong_for_all(places, text);
+    ALL_ROWS
+}
+
+/// What wrong rules make of the answers for all participants.
+fn wrong_for_all(places: &mut [Place], text: &mut Text) {
+    rule!(();
+        AllBackwards: wrong::rearrange(places, text, |answers| answers.reverse()),
+        AllEndAtFrozen: wrong::rearrange(places, text, wrong::end_at_frozen),
+        AllFrozenIfOne: wrong::rearrange(places, text, wrong::freeze_all),
+        AllFrozenLeftOut: wrong::rearrange(places, text, wrong::leave_out_frozen),
+        AllForTheFirst: wrong::rearrange(places, text, wrong::first_for_all),
+        AllRowsCounted: wrong::rearrange(places, text, wrong::count_so_far),
+        AllRowsFirst: wrong::rows_first(text),
+        AllVerdictsOnly: wrong::keep_lines(text, |line| !line.starts_with("row")),
+        AllRowsOnly: wrong::keep_lines(text, |line| line.starts_with("row")),
+        FrozenClearsAll: if wrong::lines_so_far(text, "frozen") > 0 { places.fill(Place::default()) });
+}
+
+/// Answers a request into the lent buffers, of which every place and every byte is written.
+pub fn call(request: &[u8], rows: &mut [Place], text: &mut [u8]) -> Answer {
+    let old = wrong::copy_of(rows);
+    let answered = answer(request, rows, text);
+    let refused = answered.is_err();
+    let (Held { places, bytes }, answer) = match answered {
+        Ok(held) => {
+            let length = held.bytes;
+            (
+                held,
+                Answer {
+                    length,
+                    ..Answer::default()
+                },
+            )
+        }
+        Err(refusal) => {
+            let (places, bytes) = (0, 0);
+            (Held { places, bytes }, refusal.into())
+        }
+    };
+    rows[places..].fill(Place::default());
+    let why = || !refused && wrong::asks_why(request);
+    let printed = &text[..bytes];
+    let liquid = || printed.starts_with(b"liquid");
+    let short = rows.len() < ROWS;
+    rule!(();
+        WhyRowsKept: wrong::keep(rows, &old, |_, _| why()),
+        WhyLiquidRowsKept: wrong::keep(rows, &old, |_, _| why() && liquid()),
+        WhyPlacesKept: wrong::keep(rows, &old, |_, place| why() && place >= ROWS),
+        PastRowsKept: wrong::keep(rows, &old, wrong::is_past_rows),
+        FrozenPlacesKept: wrong::keep(rows, &old, wrong::is_of_frozen(printed)),
+        OtherPlacesKept: wrong::keep(rows, &old, wrong::is_of_nobody(printed)),
+        FarPlacesKept: wrong::keep(rows, &old, |_, place| place >= ALL_ROWS),
+        RefusedRowsKept: wrong::keep(rows, &old, |_, _| refused),
+        RefusedPlacesKept: wrong::keep(rows, &old, |_, place| refused && place >= ROWS),
+        ShortRowsKept: wrong::keep(rows, &old, |_, _| short));
+    rule!(text[bytes..].fill(0);
+        PastTextKept: (),
+        RefusedTextKept: if !refused { text[bytes..].fill(0) },
+        ShortTextKept: if text.len() >= TEXT_BYTES { text[bytes..].fill(0) });
+    answer
 }
 
 /// The lines of a play whose word `play` stands on `line`.
-fn play(sheet: &Sheet, values: &[Value], events: &[Event], line: usize) -> String {
-    let mut ledger = Ledger::stipulate(sheet, values);
-    let mut text = String::new();
+fn put_play(sheet: &Sheet, play: &Play, line: usize, text: &mut Text) {
+    let Play { events, values, .. } = play;
+    let mut ledger = Ledger::stipulate(sheet, play.stipulated.of(values));
     for (index, event) in events.iter().enumerate() {
-        let taken = rule!(ledger.step(sheet, event);
-            TakenAfterTheFirst: if index > 0 { Ok(()) } else { ledger.step(sheet, event) },
+        let taken = rule!(ledger.step(sheet, *event, values);
+            TakenAfterTheFirst: if index > 0 { Ok(()) } else { ledger.step(sheet, *event, values) },
             NineteenOnSight: Err(19));
         match taken {
-            Ok(()) => text += "taken\n",
+            Ok(()) => text.put(b"taken\n"),
             Err(number) => {
                 let before = rule!(line; EventLinesFromPlay: 0, EventLinesOneEarly: line - 1);
-                let line = before + 1 + index;
-                text += &format!("refused,{number},{line}");
-                text += rule!(",0\n"; EventsAtField1: ",1\n");
+                let line = (before + 1 + index) as u64;
+                let field = rule!(0; EventsAtField1: 1);
+                text.line("refused", [u64::from(number), line, field]);
                 if rule!(false; RefusalEndsPlay: true) {
                     break;
                 }
             }
         }
     }
+    put_end(&mut ledger, text);
+}
+
+/// The `end` line: time, live contracts, what each participant was paid.
+fn put_end(ledger: &mut Ledger, text: &mut Text) {
     let live = rule!(ledger.live_contracts(); MadePrinted: ledger.contracts.len());
-    text += &format!("end,{},{live}", ledger.time);
+    text.put(b"end");
+    text.put_field(ledger.time);
+    text.put_field(live as u64);
     rule!((); PaidBackwards: ledger.paid.reverse());
     for paid in &ledger.paid {
-        text += &format!(",{paid}");
+        text.put_field(*paid);
     }
-    text.push('\n');
-    text
+    text.put(b"\n");
 }

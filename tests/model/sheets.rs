@@ -1,14 +1,14 @@
 //! A sheet as a table (docs/FORMAT.md): the model's reader of a text into a table of cells, and its
 //! writer of a text from one.
 //!
-//! * [`read_sheet`] reads the text to a tree as [`read`](super::read) does, and lays the tree out in cells.
+//! * [`read_sheet`] reads the text to a sheet as [`read`](super::read) does, and lays it out in cells.
 //! * [`write_sheet`] goes through the cells in the order of the text, asks of every number that it is
-//!   one that reading gives in that place, builds the tree and prints it.
+//!   one that reading gives in that place, builds the sheet and prints it.
 
 use super::{
-    nowhere, wrong, Action, Branch, Condition, Definition, Expression, Node, Part, Reader, Refusal,
-    Reply, Sheet, BRANCHES, BRANCHES_OF_A_NODE, CONDITION_FIELDS, DEFINITIONS, DEPTH, NODES,
-    PARTICIPANTS, PARTS, REQUEST_BYTES, SATOSHI, SECRETS, SHEET_BYTES, TIME, VALUE, WEIGHT,
+    nowhere, wrong, Action, Branch, Condition, Definition, Few, Node, Part, Reader, Refusal, Sheet,
+    Span, Term, Text, BRANCHES, BRANCHES_OF_A_NODE, CONDITION_FIELDS, DEFINITIONS, DEPTH, DUE,
+    NODES, PARTICIPANTS, PARTS, REQUEST_BYTES, SATOSHI, SECRETS, SHEET_BYTES, TIME, VALUE, WEIGHT,
 };
 
 // ---------------------------------------------------------------------------------------------
@@ -47,38 +47,19 @@ impl From<Refusal> for Answer {
     }
 }
 
-impl From<Reply> for Answer {
-    fn from(reply: Reply) -> Answer {
-        match reply {
-            Reply::Refused {
-                number,
-                line,
-                field,
-            } => Answer::from(Refusal {
-                number,
-                line,
-                field,
-            }),
-            Reply::Text(text) => Answer {
-                length: text.len(),
-                ..Answer::default()
-            },
-        }
-    }
-}
-
-/// The sections of a table, as far as they are filled.
-#[derive(Default)]
-struct Table {
-    /// Definition, parent, weight, count of branches.
-    nodes: Vec<[usize; 4]>,
-    /// Node, signers, opening time, kind, argument; where an `r` lists its secrets, how many they
-    /// are, where its condition stands.
-    branches: Vec<[usize; 8]>,
-    /// Root, where the deposits and then the owners are listed, count of secrets.
-    definitions: Vec<[usize; 3]>,
-    listed: Vec<usize>,
-    conditions: Vec<usize>,
+/// A table as it is filled, and how many nodes, branches, listed numbers and cells of conditions it has so
+/// far.
+///
+/// * A node: definition, parent, weight, count of branches.
+/// * A branch: node, signers, opening time, kind, argument; where an `r` lists its secrets, how many they
+///   are, where its condition stands.
+/// * A definition: root, where the deposits and then the owners are listed, count of secrets.
+struct Table<'c> {
+    cells: &'c mut [usize],
+    nodes: usize,
+    branches: usize,
+    listed: usize,
+    conditions: usize,
 }
 
 /// The sections of a table that was read: where each begins and ends.
@@ -104,7 +85,7 @@ pub fn read_sheet(text: &[u8], cells: &mut [usize]) -> Answer {
             rule!(cells.fill(0);
                 PastCellsKept: (),
                 FarCellsKept: cells[..SHEET_CELLS].fill(0));
-            Table::of(&sheet).lay_out(sheet.participants, cells);
+            lay_out(&sheet, cells);
             Answer {
                 length: text.len(),
                 ..Answer::default()
@@ -145,52 +126,83 @@ fn sheet_alone(text: &[u8], cell_count: usize) -> Result<Sheet, Refusal> {
         rule!((); BehindNowhere: refusal = nowhere(9));
         return Err(refusal);
     }
-    Ok(Sheet {
-        participants: reader.participants,
-        definitions: reader.definitions,
-        nodes: reader.nodes,
-    })
+    Ok(reader.sheet)
 }
 
-impl Table {
-    fn of(sheet: &Sheet) -> Table {
-        let mut table = Table {
-            nodes: vec![[0; 4]; sheet.nodes.len()],
-            ..Table::default()
-        };
-        for definition in &sheet.definitions {
-            let (root, secrets) = (definition.root, definition.owners.len());
-            table.definitions.push([root, table.listed.len(), secrets]);
-            let deposits = definition.deposits.iter().map(|deposit| *deposit as usize);
-            table.listed.extend(deposits);
-            table.listed.extend(&definition.owners);
-            table.contract(sheet, root, NO_BRANCH, 0);
+/// Fills the sections of a table, and then its header.
+fn lay_out(sheet: &Sheet, cells: &mut [usize]) {
+    let mut table = Table {
+        cells,
+        nodes: 0,
+        branches: 0,
+        listed: 0,
+        conditions: 0,
+    };
+    for (number, definition) in sheet.definitions.iter().enumerate() {
+        table.definition(sheet, number, definition);
+    }
+    let header = [
+        sheet.participants,
+        sheet.definitions.len(),
+        table.nodes,
+        table.branches,
+        table.listed,
+        table.conditions,
+    ];
+    table.put(0, 0, header);
+}
+
+impl Table<'_> {
+    /// Entry `number` of a section that begins at a cell.
+    fn put<const N: usize>(&mut self, at: usize, number: usize, entry: [usize; N]) {
+        self.cells[at + N * number..][..N].copy_from_slice(&entry);
+    }
+
+    fn list(&mut self, number: usize) {
+        self.put(LISTED_AT, self.listed, [number]);
+        self.listed += 1;
+    }
+
+    fn definition(&mut self, sheet: &Sheet, number: usize, definition: &Definition) {
+        let (root, secrets) = (definition.root, definition.owners.len());
+        self.put(DEFINITIONS_AT, number, [root, self.listed, secrets]);
+        for deposit in sheet.deposits(number) {
+            self.list(*deposit as usize);
         }
-        table
+        for owner in definition.owners.iter() {
+            self.list(usize::from(*owner));
+        }
+        self.contract(sheet, root, NO_BRANCH, 0);
     }
 
     fn contract(&mut self, sheet: &Sheet, number: usize, parent: usize, weight: u64) {
-        let node = &sheet.nodes[number];
-        let count = node.branches.len();
-        self.nodes[number] = [node.definition, parent, weight as usize, count];
-        for branch in &node.branches {
+        let branches = sheet.branches(number);
+        let definition = sheet.nodes[number].definition;
+        let entry = [definition, parent, weight as usize, branches.len()];
+        self.put(NODES_AT, number, entry);
+        self.nodes += 1;
+        for branch in branches {
             self.branch(sheet, number, branch);
         }
     }
 
     /// A branch stands before the contracts that it holds.
     fn branch(&mut self, sheet: &Sheet, node: usize, branch: &Branch) {
-        let place = self.branches.len();
-        let (first, condition_at) = (self.listed.len(), self.conditions.len());
+        let place = self.branches;
+        self.branches += 1;
         let [kind, argument, first, count, condition_at] = match &branch.action {
             Action::Withdraw { to } => [0, *to, 0, 0, 0],
-            Action::Split { parts } => [1, parts.len(), 0, 0, 0],
+            Action::Split { parts } => [1, sheet.parts(*parts).len(), 0, 0, 0],
             Action::Reveal {
                 secrets,
                 condition,
                 next,
             } => {
-                self.listed.extend(secrets);
+                let condition = sheet.condition(*condition);
+                let (first, condition_at) = (self.listed, self.conditions);
+                secrets
+                    .iter()
+                    .for_each(|secret| self.list(usize::from(*secret)));
                 self.condition(rule!(condition;
                     HeldAsT: wrong::shortened(condition, true),
                     HeldAsNotT: wrong::shortened(condition, false)));
@@ -199,19 +211,12 @@ impl Table {
             Action::Renew { definition } => [3, *definition, 0, 0, 0],
         };
         let (signers, opens) = (branch.signers as usize, branch.opens as usize);
-        self.branches.push([
-            node,
-            signers,
-            opens,
-            kind,
-            argument,
-            first,
-            count,
-            condition_at,
-        ]);
+        #[rustfmt::skip]
+        let entry = [node, signers, opens, kind, argument, first, count, condition_at];
+        self.put(BRANCHES_AT, place, entry);
         match &branch.action {
             Action::Split { parts } => {
-                for part in parts {
+                for part in sheet.parts(*parts) {
                     self.contract(sheet, part.node, place, part.weight);
                 }
             }
@@ -220,57 +225,31 @@ impl Table {
         }
     }
 
-    fn condition(&mut self, condition: &Condition) {
-        match condition {
-            Condition::True => self.conditions.push(0),
-            Condition::And(left, right) => {
-                self.conditions.push(1);
-                self.condition(left);
-                self.condition(right);
+    fn condition(&mut self, condition: Condition) {
+        for term in condition.0 {
+            match *term {
+                Term::True => self.field(0),
+                Term::And => self.field(1),
+                Term::Not => self.field(2),
+                Term::Equal => self.field(3),
+                Term::Less => self.field(4),
+                Term::Constant(number) => {
+                    self.field(0);
+                    self.field(number as usize);
+                }
+                Term::Secret(secret) => {
+                    self.field(1);
+                    self.field(usize::from(secret));
+                }
+                Term::Add => self.field(2),
+                Term::Subtract => self.field(3),
             }
-            Condition::Not(part) => {
-                self.conditions.push(2);
-                self.condition(part);
-            }
-            Condition::Equal(left, right) => self.expressions(3, left, right),
-            Condition::Less(left, right) => self.expressions(4, left, right),
         }
     }
 
-    fn expression(&mut self, expression: &Expression) {
-        match expression {
-            Expression::Constant(number) => self.conditions.extend([0, *number as usize]),
-            Expression::Secret(secret) => self.conditions.extend([1, *secret]),
-            Expression::Add(left, right) => self.expressions(2, left, right),
-            Expression::Subtract(left, right) => self.expressions(3, left, right),
-        }
-    }
-
-    fn expressions(&mut self, word: usize, left: &Expression, right: &Expression) {
-        self.conditions.push(word);
-        self.expression(left);
-        self.expression(right);
-    }
-
-    fn lay_out(&self, participants: usize, cells: &mut [usize]) {
-        let header = [
-            participants,
-            self.definitions.len(),
-            self.nodes.len(),
-            self.branches.len(),
-            self.listed.len(),
-            self.conditions.len(),
-        ];
-        for (at, section) in [
-            (0, &header[..]),
-            (NODES_AT, self.nodes.as_flattened()),
-            (BRANCHES_AT, self.branches.as_flattened()),
-            (DEFINITIONS_AT, self.definitions.as_flattened()),
-            (LISTED_AT, &self.listed),
-            (CONDITIONS_AT, &self.conditions),
-        ] {
-            cells[at..at + section.len()].copy_from_slice(section);
-        }
+    fn field(&mut self, field: usize) {
+        self.put(CONDITIONS_AT, self.conditions, [field]);
+        self.conditions += 1;
     }
 }
 
@@ -290,7 +269,7 @@ pub fn write_sheet(cells: &[usize], text: &mut [u8]) -> Answer {
     match written {
         Ok(written) if fits(written.len()) => {
             let (head, behind) = text.split_at_mut(written.len());
-            head.copy_from_slice(written.as_bytes());
+            head.copy_from_slice(&written);
             rule!(();
                 BehindCleared: behind.fill(0),
                 ZeroBehind: if let Some(byte) = behind.first_mut() { *byte = 0 });
@@ -302,7 +281,7 @@ pub fn write_sheet(cells: &[usize], text: &mut [u8]) -> Answer {
         Ok(written) => {
             rule!(();
                 RefusedTextCleared: text.fill(0),
-                WrittenAsFarAsFits: text.copy_from_slice(&written.as_bytes()[..before]));
+                WrittenAsFarAsFits: text.copy_from_slice(&written[..before]));
             nowhere(20).into()
         }
         Err(refusal) => {
@@ -313,9 +292,18 @@ pub fn write_sheet(cells: &[usize], text: &mut [u8]) -> Answer {
 }
 
 /// The text that reads to what the cells hold, if there is one.
-pub fn text_of(cells: &[usize]) -> Option<String> {
-    let text = sheet_of(cells)?.text();
-    (text.len() <= limit!(SheetBytes, SHEET_BYTES)).then_some(text)
+pub fn text_of(cells: &[usize]) -> Option<Vec<u8>> {
+    let sheet = sheet_of(cells)?;
+    let mut buffer = vec![0; limit!(SheetBytes, SHEET_BYTES)];
+    let mut text = Text {
+        buffer: &mut buffer,
+        length: 0,
+    };
+    sheet.put(&mut text);
+    let length = text.length;
+    must(length <= buffer.len())?;
+    buffer.truncate(length);
+    Some(buffer)
 }
 
 /// The sheet that the cells hold, if a text of any length reads to them.
@@ -327,8 +315,7 @@ pub fn sheet_of(cells: &[usize]) -> Option<Sheet> {
         conditions: 0,
         sheet: Sheet {
             participants: cells[0],
-            definitions: Vec::new(),
-            nodes: Vec::new(),
+            ..Sheet::default()
         },
     };
     walk.sheet()?;
@@ -390,26 +377,22 @@ impl Walk<'_> {
         must(rule!(root == self.sheet.nodes.len(); RootsNotAsked: true))?;
         must(rule!(first == self.listed; DepositsAnywhere: true))?;
         within(secrets, 0, limit!(Secrets, SECRETS))?;
-        let mut deposits = Vec::new();
         let mut together = 0;
         for _ in 0..self.sheet.participants {
             let deposit = self.next_listed()? as u64;
             must(deposit <= limit!(Deposit, SATOSHI))?;
             together += deposit;
             must(together <= limit!(Deposits, SATOSHI))?;
-            deposits.push(deposit);
+            self.sheet.deposits.push(deposit);
         }
-        let mut owners = Vec::new();
+        let mut owners = Few::default();
         for _ in 0..secrets {
             let owner = self.next_listed()?;
             must(owner < limit!(Owner, self.sheet.participants))?;
-            owners.push(owner);
+            owners.push(owner as u8);
         }
-        self.sheet.definitions.push(Definition {
-            deposits,
-            owners,
-            root: self.sheet.nodes.len(),
-        });
+        let root = self.sheet.nodes.len();
+        self.sheet.definitions.push(Definition { owners, root });
         self.contract(NO_BRANCH, 0, 1)?;
         Some(())
     }
@@ -425,14 +408,15 @@ impl Walk<'_> {
         let heaviest = rule!(heaviest; OtherWeightsNotAsked: heaviest.max(WEIGHT));
         within(weight, 0, heaviest)?;
         within(count, 0, limit!(BranchesOfANode, BRANCHES_OF_A_NODE))?;
+        let first = self.sheet.branches.len();
+        self.sheet.branches.resize(first + count, DUE);
         self.sheet.nodes.push(Node {
             definition,
             depth,
-            branches: Vec::new(),
+            branches: Span::new(first, count),
         });
-        for _ in 0..count {
-            let branch = self.branch(number, depth)?;
-            self.sheet.nodes[number].branches.push(branch);
+        for place in first..first + count {
+            self.sheet.branches[place] = self.branch(number, depth)?;
         }
         Some(Part {
             weight: weight as u64,
@@ -459,9 +443,7 @@ impl Walk<'_> {
                 must(argument < limit!(PaidTo, self.sheet.participants))?;
                 Action::Withdraw { to: argument }
             }
-            1 => Action::Split {
-                parts: self.parts(place, argument, depth)?,
-            },
+            1 => self.split(place, argument, depth)?,
             2 => {
                 must(rule!(first == self.listed; SecretsAnywhere: true))?;
                 must(rule!(condition_at == self.conditions; ConditionsAnywhere: true))?;
@@ -483,34 +465,42 @@ impl Walk<'_> {
             _ => return None,
         };
         Some(Branch {
-            signers: signers as u64,
+            signers: signers as u32,
             opens: opens as u64,
             action,
         })
     }
 
-    fn parts(&mut self, place: usize, count: usize, depth: usize) -> Option<Vec<Part>> {
+    fn split(&mut self, place: usize, count: usize, depth: usize) -> Option<Action> {
         within(count, limit!(LeastParts, 1), limit!(Parts, PARTS))?;
-        let part = |_| self.contract(place, limit!(Weight, WEIGHT), depth + 1);
-        let parts = (0..count).map(part).collect::<Option<Vec<Part>>>()?;
-        let together: u64 = parts.iter().map(|part| part.weight).sum();
+        let first = self.sheet.parts.len();
+        self.sheet.parts.resize(first + count, Part::default());
+        let mut together = 0;
+        for number in first..first + count {
+            let part = self.contract(place, limit!(Weight, WEIGHT), depth + 1)?;
+            together += part.weight;
+            self.sheet.parts[number] = part;
+        }
         must(rule!(together > 0; ZeroSumAllowed: true))?;
-        Some(parts)
+        let parts = Span::new(first, count);
+        Some(Action::Split { parts })
     }
 
     /// The secrets of an `r` and its condition.
-    fn reveal(&mut self, count: usize) -> Option<(Vec<usize>, Condition)> {
+    fn reveal(&mut self, count: usize) -> Option<(Few<u8>, Span)> {
         let owned = self.sheet.definitions.last()?.owners.len();
         within(count, limit!(LeastListed, 1), limit!(Listed, SECRETS))?;
-        let mut secrets = Vec::new();
+        let mut secrets = Few::default();
         for _ in 0..count {
             let secret = self.next_listed()?;
-            must(rule!(!secrets.contains(&secret); TwiceAllowed: true))?;
             must(secret < limit!(ListedSecret, owned))?;
-            secrets.push(secret);
+            must(rule!(!secrets.contains(&(secret as u8)); TwiceAllowed: true))?;
+            secrets.push(secret as u8);
         }
+        let first = self.sheet.terms.len();
         let end = self.conditions + limit!(FieldsAtCondition, CONDITION_FIELDS);
-        let condition = self.condition(&secrets, end)?;
+        self.condition(&secrets, end)?;
+        let condition = Span::new(first, self.sheet.terms.len() - first);
         Some((secrets, condition))
     }
 
@@ -523,50 +513,55 @@ impl Walk<'_> {
         Some(field)
     }
 
-    fn condition(&mut self, listed: &[usize], end: usize) -> Option<Condition> {
+    fn condition(&mut self, listed: &[u8], end: usize) -> Option<()> {
         let word = self.next_field(end)?;
-        Some(match rule!(word; OtherWordsAreLt: word.min(4)) {
-            0 => Condition::True,
-            1 => {
-                let left = Box::new(self.condition(listed, end)?);
-                Condition::And(left, Box::new(self.condition(listed, end)?))
-            }
-            2 => Condition::Not(Box::new(self.condition(listed, end)?)),
-            3 => {
-                let left = self.expression(listed, end)?;
-                Condition::Equal(left, self.expression(listed, end)?)
-            }
-            4 => {
-                let left = self.expression(listed, end)?;
-                Condition::Less(left, self.expression(listed, end)?)
-            }
+        let term = match rule!(word; OtherWordsAreLt: word.min(4)) {
+            0 => Term::True,
+            1 => Term::And,
+            2 => Term::Not,
+            3 => Term::Equal,
+            4 => Term::Less,
             _ => return None,
-        })
+        };
+        self.sheet.terms.push(term);
+        match term {
+            Term::True => Some(()),
+            Term::Not => self.condition(listed, end),
+            Term::And => {
+                self.condition(listed, end)?;
+                self.condition(listed, end)
+            }
+            _ => {
+                self.expression(listed, end)?;
+                self.expression(listed, end)
+            }
+        }
     }
 
-    fn expression(&mut self, listed: &[usize], end: usize) -> Option<Expression> {
+    fn expression(&mut self, listed: &[u8], end: usize) -> Option<()> {
         let word = self.next_field(end)?;
-        Some(match rule!(word; OtherWordsAreSub: word.min(3)) {
+        let term = match rule!(word; OtherWordsAreSub: word.min(3)) {
             0 => {
                 let number = self.next_field(end)?;
                 within(number, 0, limit!(Constant, VALUE))?;
-                Expression::Constant(number as u64)
+                Term::Constant(number as u32)
             }
             1 => {
                 let secret = self.next_field(end)?;
-                must(rule!(listed.contains(&secret); AnySecretNamed: true))?;
-                Expression::Secret(secret)
+                let is_secret = |listed: &u8| usize::from(*listed) == secret;
+                must(rule!(listed.iter().any(is_secret); AnySecretNamed: true))?;
+                Term::Secret(secret as u8)
             }
-            2 => {
-                let left = Box::new(self.expression(listed, end)?);
-                Expression::Add(left, Box::new(self.expression(listed, end)?))
-            }
-            3 => {
-                let left = Box::new(self.expression(listed, end)?);
-                Expression::Subtract(left, Box::new(self.expression(listed, end)?))
-            }
+            2 => Term::Add,
+            3 => Term::Subtract,
             _ => return None,
-        })
+        };
+        self.sheet.terms.push(term);
+        if matches!(term, Term::Add | Term::Subtract) {
+            self.expression(listed, end)?;
+            self.expression(listed, end)?;
+        }
+        Some(())
     }
 }
 
@@ -576,90 +571,94 @@ impl Walk<'_> {
 
 impl Sheet {
     /// Line 1 and the `def` lines.
-    pub fn text(&self) -> String {
-        let mut text = format!("bitml,{},{}\n", self.participants, self.definitions.len());
-        for definition in &self.definitions {
-            text += "def";
-            for deposit in &definition.deposits {
-                text += &format!(",{deposit}");
+    fn put(&self, text: &mut Text) {
+        let definitions = self.definitions.len();
+        text.line("bitml", [self.participants as u64, definitions as u64]);
+        for (number, definition) in self.definitions.iter().enumerate() {
+            text.put(b"def");
+            for deposit in self.deposits(number) {
+                text.put_field(*deposit);
             }
-            text += &format!(",{}", definition.owners.len());
-            for owner in &definition.owners {
-                text += &format!(",{owner}");
+            text.put_field(definition.owners.len() as u64);
+            for owner in definition.owners.iter() {
+                text.put_field(u64::from(*owner));
             }
-            self.contract_text(definition.root, &mut text);
-            text.push('\n');
+            self.put_contract(definition.root, text);
+            text.put(b"\n");
         }
-        text
     }
 
-    fn contract_text(&self, node: usize, text: &mut String) {
-        let branches = &self.nodes[node].branches;
-        *text += &format!(",c,{}", branches.len());
+    fn put_contract(&self, node: usize, text: &mut Text) {
+        let branches = self.branches(node);
+        text.put(b",c");
+        text.put_field(branches.len() as u64);
         for branch in branches {
-            *text += &format!(",{},{}", branch.signers, branch.opens);
-            match &branch.action {
-                Action::Withdraw { to } => *text += &format!(",w,{to}"),
-                Action::Renew { definition } => *text += &format!(",g,{definition}"),
-                Action::Split { parts } => {
-                    *text += &format!(",s,{}", parts.len());
-                    for Part { weight, node } in parts {
-                        *text += &format!(",{weight}");
-                        self.contract_text(*node, text);
-                    }
-                }
-                Action::Reveal {
-                    secrets,
-                    condition,
-                    next,
-                } => {
-                    *text += &format!(",r,{}", secrets.len());
-                    for secret in secrets {
-                        *text += &format!(",{secret}");
-                    }
-                    let condition = rule!(condition;
-                        WrittenAsT: wrong::shortened(condition, true),
-                        WrittenAsNotT: wrong::shortened(condition, false));
-                    condition.put(text);
-                    self.contract_text(*next, text);
+            text.put_field(u64::from(branch.signers));
+            text.put_field(branch.opens);
+            self.put_action(&branch.action, text);
+        }
+    }
+
+    fn put_action(&self, action: &Action, text: &mut Text) {
+        match action {
+            Action::Withdraw { to } => {
+                text.put(b",w");
+                text.put_field(*to as u64);
+            }
+            Action::Renew { definition } => {
+                text.put(b",g");
+                text.put_field(*definition as u64);
+            }
+            Action::Split { parts } => {
+                let parts = self.parts(*parts);
+                text.put(b",s");
+                text.put_field(parts.len() as u64);
+                for Part { weight, node } in parts {
+                    text.put_field(*weight);
+                    self.put_contract(*node, text);
                 }
             }
-        }
-    }
-}
-
-impl Condition {
-    fn put(&self, text: &mut String) {
-        match self {
-            Condition::True => *text += ",t",
-            Condition::And(left, right) => {
-                *text += ",and";
-                left.put(text);
-                right.put(text);
+            Action::Reveal {
+                secrets,
+                condition,
+                next,
+            } => {
+                text.put(b",r");
+                text.put_field(secrets.len() as u64);
+                for secret in secrets.iter() {
+                    text.put_field(u64::from(*secret));
+                }
+                let condition = self.condition(*condition);
+                put_condition(
+                    rule!(condition;
+                    WrittenAsT: wrong::shortened(condition, true),
+                    WrittenAsNotT: wrong::shortened(condition, false)),
+                    text,
+                );
+                self.put_contract(*next, text);
             }
-            Condition::Not(part) => {
-                *text += ",not";
-                part.put(text);
+        }
+    }
+}
+
+fn put_condition(condition: Condition, text: &mut Text) {
+    for term in condition.0 {
+        match *term {
+            Term::True => text.put(b",t"),
+            Term::And => text.put(b",and"),
+            Term::Not => text.put(b",not"),
+            Term::Equal => text.put(b",eq"),
+            Term::Less => text.put(b",lt"),
+            Term::Constant(number) => {
+                text.put(b",k");
+                text.put_field(u64::from(number));
             }
-            Condition::Equal(left, right) => put_both(",eq", left, right, text),
-            Condition::Less(left, right) => put_both(",lt", left, right, text),
+            Term::Secret(secret) => {
+                text.put(b",v");
+                text.put_field(u64::from(secret));
+            }
+            Term::Add => text.put(b",add"),
+            Term::Subtract => text.put(b",sub"),
         }
     }
-}
-
-impl Expression {
-    fn put(&self, text: &mut String) {
-        match self {
-            Expression::Constant(number) => *text += &format!(",k,{number}"),
-            Expression::Secret(secret) => *text += &format!(",v,{secret}"),
-            Expression::Add(left, right) => put_both(",add", left, right, text),
-            Expression::Subtract(left, right) => put_both(",sub", left, right, text),
-        }
-    }
-}
-
-fn put_both(word: &str, left: &Expression, right: &Expression, text: &mut String) {
-    *text += word;
-    left.put(text);
-    right.put(text);
 }

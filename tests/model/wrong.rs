@@ -2,7 +2,8 @@
 //!
 //! The model names them where they apply: `rule!(right; Name: wrong, ..)` for a rule, `limit!(Name, most)`
 //! for a limit, which is also tried one higher and one lower, and `lower!(one, other)` and
-//! `cause!(one, other)` for the order of two refusals and of two causes.  `number!(Name, p)` is 2^p, which
+//! `cause!(one, other)` for the order of two refusals and of two causes.  `lowest!(number: applies, ..)`,
+//! by rising number, is the lowest of the refusals that apply.  `number!(Name, p)` is 2^p, which
 //! stands for participant p in a signers field: each is also tried in the place of the next.
 //! `asking!(value)` marks where the value of a condition is asked for an own branch: the rules of
 //! conditions are tried there alone, in the ledger alone, and in both.
@@ -12,8 +13,8 @@
 use std::collections::VecDeque;
 
 use super::{
-    exits, judge, reached, run_to, Action, Branch, Commitment, Condition, Contract, Event,
-    Expression, Made, Node, Part, Place, Reply, Row, Sheet, Step, ALL_ROWS, ROWS,
+    exits, hold, judge, reached, run_to, Action, Branch, Commitments, Condition, Contract, Event,
+    Part, Place, Reply, Row, Sheet, Span, Step, Term, Text, ALL_ROWS, PARTS, ROWS,
 };
 
 #[cfg(not(wrong_rules))]
@@ -31,6 +32,10 @@ macro_rules! lower {
     ($one:expr, $other:expr) => {
         $one.min($other)
     };
+}
+#[cfg(not(wrong_rules))]
+macro_rules! lowest {
+    ($($number:literal: $applies:expr),+) => { $(if $applies { Some($number) } else)+ { None } };
 }
 #[cfg(not(wrong_rules))]
 macro_rules! cause {
@@ -71,6 +76,12 @@ macro_rules! limit {
 macro_rules! lower {
     ($one:expr, $other:expr) => {
         wrong::lower($one, $other)
+    };
+}
+#[cfg(wrong_rules)]
+macro_rules! lowest {
+    ($($number:literal: $applies:expr),+) => {
+        wrong::lowest(&[$(($number, $applies)),+])
     };
 }
 #[cfg(wrong_rules)]
@@ -170,6 +181,12 @@ mod switch {
             Some(Wrong::Order(first, second)) if (first, second) == (higher, lower) => higher,
             _ => lower,
         }
+    }
+
+    /// Of the refusals that apply, the lowest.
+    pub fn lowest(refusals: &[(u32, bool)]) -> Option<u32> {
+        let applying = refusals.iter().filter(|(_, applies)| *applies);
+        applying.map(|(number, _)| *number).reduce(lower)
     }
 
     /// The lower of two causes, or the higher where just these two are in the wrong order.
@@ -920,9 +937,9 @@ mod switch {
 
 // What is too long for a line in the model.
 
-pub fn kill(contracts: &mut [Contract], event: &Event) {
+pub fn kill(contracts: &mut [Contract], event: Event) {
     if let Event::Fire { contract, .. } = event {
-        if let Some(contract) = contracts.get_mut(*contract) {
+        if let Some(contract) = contracts.get_mut(contract as usize) {
             contract.alive = false;
         }
     }
@@ -930,33 +947,29 @@ pub fn kill(contracts: &mut [Contract], event: &Event) {
 
 /// The contracts made since there were `before` have the signatures of the one they come from.
 pub fn keep_signatures(contracts: &mut [Contract], from: usize, before: usize) {
-    let kept = contracts[from].signed.clone();
+    let kept = contracts[from].signed;
     for made in &mut contracts[before..] {
-        for (signed, kept) in made.signed.iter_mut().zip(&kept) {
-            *signed = *kept;
-        }
+        made.signed = kept;
     }
 }
 
 /// The last set has told what the old one has.
-pub fn stay_told(sets: &mut [Vec<Commitment>], old: usize) {
-    if let Some((new, before)) = sets.split_last_mut() {
-        for (new, old) in new.iter_mut().zip(&before[old]) {
-            new.told = old.told;
-        }
+pub fn stay_told(sets: &mut [Commitments], old: usize) {
+    let told = sets[old].told;
+    if let Some(new) = sets.last_mut() {
+        new.told = told;
     }
 }
 
-pub fn shares_of_the_rest(mut balance: u64, parts: &[Part]) -> Vec<u64> {
+pub fn shares_of_the_rest(mut balance: u64, parts: &[Part]) -> [u64; PARTS as usize] {
     let mut weights: u64 = parts.iter().map(|part| part.weight).sum();
-    let share = |part: &Part| {
-        let whole = u128::from(balance) * u128::from(part.weight);
-        let share = (whole / u128::from(weights.max(1))) as u64;
-        balance -= share;
+    let mut shares = [0; PARTS as usize];
+    for (share, part) in shares.iter_mut().zip(parts) {
+        *share = balance * part.weight / weights.max(1);
+        balance -= *share;
         weights -= part.weight;
-        share
-    };
-    parts.iter().map(share).collect()
+    }
+    shares
 }
 
 /// The events before the refused line, played, and then the refusal.
@@ -987,8 +1000,8 @@ pub fn parts_first(sheet: &Sheet, node: usize) -> usize {
         let mut inside = vec![node];
         let mut place = 0;
         while place < inside.len() {
-            let branches = &sheet.nodes[inside[place]].branches;
-            inside.extend(branches.iter().flat_map(Branch::contracts));
+            let branches = sheet.branches(inside[place]).iter();
+            inside.extend(branches.flat_map(|branch| sheet.contracts(branch)));
             place += 1;
         }
         inside.len() - 1
@@ -1008,7 +1021,7 @@ pub fn unquoted(text: &[u8]) -> &[u8] {
 /// The row of a node that has nothing left.
 pub fn done(sheet: &Sheet, node: usize) -> Option<Row> {
     let (branch, rank) = (0, 1);
-    let nothing = sheet.nodes[node].branches.is_empty();
+    let nothing = sheet.branches(node).is_empty();
     nothing.then_some(Row { node, branch, rank })
 }
 
@@ -1054,7 +1067,7 @@ pub fn as_walked(sheet: &Sheet, rows: &mut [Row], deep: bool) {
         }
         walked.push(node);
         let before = next.len();
-        let branches = sheet.nodes[node].branches.iter();
+        let branches = sheet.branches(node).iter();
         next.extend(branches.flat_map(|branch| sheet.replaced_by(branch)));
         if deep {
             next.rotate_left(before);
@@ -1064,9 +1077,9 @@ pub fn as_walked(sheet: &Sheet, rows: &mut [Row], deep: bool) {
 }
 
 /// The sum of the published ranks.
-pub fn published(sheet: &Sheet, participant: usize, parts: &[usize]) -> u64 {
+pub fn published(sheet: &Sheet, participant: usize, parts: impl Iterator<Item = usize>) -> u64 {
     let exits = exits(sheet, participant);
-    let rows = parts.iter().filter_map(|node| exits[*node]);
+    let rows = parts.filter_map(|node| exits[node]);
     rows.map(|row| row.rank).sum()
 }
 
@@ -1085,14 +1098,13 @@ pub fn set_lives(contracts: &[Contract], set: usize) -> bool {
 }
 
 /// How many sets have secrets.
-pub fn filled(sets: &[Vec<Commitment>]) -> usize {
-    sets.iter().filter(|set| !set.is_empty()).count()
+pub fn filled(sets: &[Commitments]) -> usize {
+    sets.iter().filter(|set| !set.values.is_empty()).count()
 }
 
 /// Is the secret told in some set?
-pub fn told_anywhere(sets: &[Vec<Commitment>], secret: usize) -> bool {
-    let told = |set: &Vec<Commitment>| set.get(secret).is_some_and(|secret| secret.told);
-    sets.iter().any(told)
+pub fn told_anywhere(sets: &[Commitments], secret: u8) -> bool {
+    sets.iter().any(|set| set.is_told(usize::from(secret)))
 }
 
 /// The satoshi in live contracts.
@@ -1101,76 +1113,67 @@ pub fn held(contracts: &[Contract]) -> u64 {
     live.map(|contract| contract.balance).sum()
 }
 
-/// All expressions of a condition, those within others too.
-fn expressions(condition: &Condition) -> Vec<&Expression> {
-    let mut found = match condition {
-        Condition::True => Vec::new(),
-        Condition::And(left, right) => [expressions(left), expressions(right)].concat(),
-        Condition::Not(part) => expressions(part),
-        Condition::Equal(left, right) | Condition::Less(left, right) => vec![left, right],
-    };
-    let mut place = 0;
-    while place < found.len() {
-        if let Expression::Add(left, right) | Expression::Subtract(left, right) = found[place] {
-            found.extend([&**left, &**right]);
-        }
-        place += 1;
-    }
-    found
-}
-
 /// Does the condition name this secret?
-pub fn names(condition: &Condition, secret: usize) -> bool {
-    let named = |expression: &&Expression| **expression == Expression::Secret(secret);
-    expressions(condition).iter().any(named)
+pub fn names(condition: Condition, secret: u8) -> bool {
+    condition.0.contains(&Term::Secret(secret))
 }
 
 // Conditions that hold anyway.
 
 /// `t`, or a comparison of two constants?
-pub fn is_flat(condition: &Condition) -> bool {
-    let constant = |side: &Expression| matches!(side, Expression::Constant(_));
-    match condition {
-        Condition::True => true,
-        Condition::Equal(left, right) | Condition::Less(left, right) => {
-            constant(left) && constant(right)
-        }
-        Condition::And(..) | Condition::Not(_) => false,
-    }
+pub fn is_flat(condition: Condition) -> bool {
+    matches!(
+        condition.0,
+        [Term::True] | [_, Term::Constant(_), Term::Constant(_)]
+    )
 }
 
-pub fn has_sums(condition: &Condition) -> bool {
-    let is_sum = |it: &Expression| matches!(it, Expression::Add(..) | Expression::Subtract(..));
-    expressions(condition).into_iter().any(is_sum)
+pub fn has_sums(condition: Condition) -> bool {
+    let is_sum = |term: &Term| matches!(term, Term::Add | Term::Subtract);
+    condition.0.iter().any(is_sum)
 }
 
 /// In a table `v` has the code 1: has a constant, or perhaps an `and`, the same?
-pub fn has_one(condition: &Condition, also_and: bool) -> bool {
-    fn has_and(condition: &Condition) -> bool {
-        match condition {
-            Condition::And(..) => true,
-            Condition::Not(part) => has_and(part),
-            _ => false,
-        }
+pub fn has_one(condition: Condition, also_and: bool) -> bool {
+    let is_one = |term: &Term| *term == Term::Constant(1) || also_and && *term == Term::And;
+    condition.0.iter().any(is_one)
+}
+
+/// The first of the conditions or expressions that stand one behind the other, and the rest.
+fn split_first(terms: &[Term]) -> (&[Term], &[Term]) {
+    let (mut due, mut length) = (1, 0);
+    while due > 0 {
+        due = due - 1 + operands(terms[length]);
+        length += 1;
     }
-    let is_one = |it: &Expression| *it == Expression::Constant(1);
-    expressions(condition).into_iter().any(is_one) || also_and && has_and(condition)
+    terms.split_at(length)
+}
+
+/// For how many conditions or expressions the term asks.
+fn operands(term: Term) -> usize {
+    match term {
+        Term::True | Term::Constant(_) | Term::Secret(_) => 0,
+        Term::Not => 1,
+        Term::And | Term::Equal | Term::Less | Term::Add | Term::Subtract => 2,
+    }
 }
 
 /// The value where a false part of an `and`, the first or the second, decides it whatever the other
 /// names.
-pub fn lazily(condition: &Condition, decides: [bool; 2]) -> Option<bool> {
-    match condition {
-        Condition::And(left, right) => {
-            let parts = [left, right].map(|part| lazily(part, decides));
+pub fn lazily(condition: Condition, decides: [bool; 2]) -> Option<bool> {
+    let behind = &condition.0[1..];
+    match condition.0[0] {
+        Term::And => {
+            let (left, right) = split_first(behind);
+            let parts = [left, right].map(|part| lazily(Condition(part), decides));
             let decided = |place: usize| decides[place] && parts[place] == Some(false);
             if decided(0) || decided(1) {
                 return Some(false);
             }
             Some(parts[0]? && parts[1]?)
         }
-        Condition::Not(part) => Some(!lazily(part, decides)?),
-        _ => condition.holds(&|_| None),
+        Term::Not => Some(!lazily(Condition(behind), decides)?),
+        _ => condition.holds(|_| None),
     }
 }
 
@@ -1191,73 +1194,62 @@ pub enum Operand {
 }
 
 /// Does it name no secret but in these operands, and is it true with 0 for those?
-pub fn overlooks(condition: &Condition, overlooked: Operand) -> bool {
-    !notices(condition, overlooked) && condition.holds(&|_| Some(0)) == Some(true)
+pub fn overlooks(condition: Condition, overlooked: Operand) -> bool {
+    !notices(condition.0, overlooked) && condition.holds(|_| Some(0)) == Some(true)
 }
 
-fn notices(condition: &Condition, overlooked: Operand) -> bool {
-    let part = |part, operand| operand != overlooked && notices(part, overlooked);
-    let side = |side, operand| operand != overlooked && notices_in(side, overlooked);
-    match condition {
-        Condition::True => false,
-        Condition::Not(only) => part(only, Operand::OfNot),
-        Condition::And(left, right) => {
-            part(left, Operand::FirstOfAnd) || part(right, Operand::SecondOfAnd)
-        }
-        Condition::Equal(left, right) => {
-            side(left, Operand::FirstOfEq) || side(right, Operand::SecondOfEq)
-        }
-        Condition::Less(left, right) => {
-            side(left, Operand::FirstOfLt) || side(right, Operand::SecondOfLt)
-        }
-    }
-}
-
-fn notices_in(expression: &Expression, overlooked: Operand) -> bool {
-    let side = |side, operand| operand != overlooked && notices_in(side, overlooked);
-    match expression {
-        Expression::Constant(_) => false,
-        Expression::Secret(_) => true,
-        Expression::Add(left, right) => {
-            side(left, Operand::FirstOfAdd) || side(right, Operand::SecondOfAdd)
-        }
-        Expression::Subtract(left, right) => {
-            side(left, Operand::FirstOfSub) || side(right, Operand::SecondOfSub)
-        }
-    }
+fn notices(terms: &[Term], overlooked: Operand) -> bool {
+    let (first, second) = match terms[0] {
+        Term::True | Term::Constant(_) => return false,
+        Term::Secret(_) => return true,
+        Term::Not => return overlooked != Operand::OfNot && notices(&terms[1..], overlooked),
+        Term::And => (Operand::FirstOfAnd, Operand::SecondOfAnd),
+        Term::Equal => (Operand::FirstOfEq, Operand::SecondOfEq),
+        Term::Less => (Operand::FirstOfLt, Operand::SecondOfLt),
+        Term::Add => (Operand::FirstOfAdd, Operand::SecondOfAdd),
+        Term::Subtract => (Operand::FirstOfSub, Operand::SecondOfSub),
+    };
+    let (left, right) = split_first(&terms[1..]);
+    first != overlooked && notices(left, overlooked)
+        || second != overlooked && notices(right, overlooked)
 }
 
 /// The condition of an `r`.
-fn condition_of(branch: &Branch) -> Option<&Condition> {
-    match &branch.action {
-        Action::Reveal { condition, .. } => Some(condition),
+fn condition_of<'s>(sheet: &'s Sheet, branch: &Branch) -> Option<Condition<'s>> {
+    match branch.action {
+        Action::Reveal { condition, .. } => Some(sheet.condition(condition)),
         _ => None,
     }
 }
 
 /// Has the branch a condition other than `t` that counts?
-pub fn is_other(branch: &Branch) -> bool {
-    condition_of(branch).is_some_and(|it| *it != Condition::True && it.counts())
+pub fn is_other(sheet: &Sheet, branch: &Branch) -> bool {
+    condition_of(sheet, branch).is_some_and(|it| !it.is_t() && it.counts())
 }
 
 /// Has the branch a condition that names no secret and is false?
-pub fn is_false(branch: &Branch) -> bool {
-    condition_of(branch).is_some_and(|condition| condition.holds(&|_| None) == Some(false))
+pub fn is_false(sheet: &Sheet, branch: &Branch) -> bool {
+    condition_of(sheet, branch).is_some_and(|it| it.holds(|_| None) == Some(false))
 }
 
 /// The condition of the first `r` of a sheet.
-pub fn first_condition(sheet: &Sheet) -> Option<&Condition> {
-    let mut branches = sheet.nodes.iter().flat_map(|node| &node.branches);
-    branches.find_map(condition_of)
+pub fn first_condition(sheet: &Sheet) -> Option<Condition<'_>> {
+    let mut branches = sheet.branches.iter();
+    branches.find_map(|branch| condition_of(sheet, branch))
 }
+
+const T: &[Term] = &[Term::True];
+const NOT_T: &[Term] = &[Term::Not, Term::True];
 
 /// The sheet with a false condition for each that is not `t`.
 pub fn only_t(sheet: &Sheet) -> Sheet {
     let mut sheet = sheet.clone();
-    for branch in sheet.nodes.iter_mut().flat_map(|node| &mut node.branches) {
+    let never = Span::new(sheet.terms.len(), NOT_T.len());
+    sheet.terms.extend(NOT_T);
+    for branch in &mut sheet.branches {
         if let Action::Reveal { condition, .. } = &mut branch.action {
-            if *condition != Condition::True {
-                *condition = Condition::Not(Box::new(Condition::True));
+            if condition.of(&sheet.terms) != T {
+                *condition = never;
             }
         }
     }
@@ -1265,11 +1257,10 @@ pub fn only_t(sheet: &Sheet) -> Sheet {
 }
 
 /// `t` or `not`,`t` for a condition that names no secret and has this value.
-pub fn shortened(condition: &Condition, value: bool) -> &Condition {
-    static NOT_T: std::sync::OnceLock<Condition> = std::sync::OnceLock::new();
-    match condition.holds(&|_| None) {
-        Some(true) if value => &Condition::True,
-        Some(false) if !value => NOT_T.get_or_init(|| Condition::Not(Box::new(Condition::True))),
+pub fn shortened(condition: Condition, value: bool) -> Condition {
+    match condition.holds(|_| None) {
+        Some(true) if value => Condition(T),
+        Some(false) if !value => Condition(NOT_T),
         _ => condition,
     }
 }
@@ -1281,42 +1272,86 @@ pub fn backwards(signers: u64, participants: usize) -> u64 {
     (0..participants).filter(signs).map(mirrored).sum()
 }
 
-/// The fields of all conditions of these nodes.
-pub fn condition_fields(nodes: &[Node]) -> usize {
-    let branches = nodes.iter().flat_map(|node| &node.branches);
-    let conditions = branches.filter_map(condition_of);
-    conditions.map(Condition::fields).sum()
-}
-
-pub fn tell_every_secret(set: &mut [Commitment]) {
-    for secret in set {
-        secret.told = true;
-    }
-}
-
-pub fn tell_in_every_set(sets: &mut [Vec<Commitment>], secret: usize) {
+pub fn tell_in_every_set(sets: &mut [Commitments], secret: u32) {
     for set in sets {
-        if let Some(secret) = set.get_mut(secret) {
-            secret.told = true;
-        }
+        set.told |= 1 << secret;
     }
-}
-
-pub fn rows_as_text(rows: impl Iterator<Item = Row>) -> String {
-    let line = |row: Row| format!("row,{},{},{}\n", row.node, row.branch, row.rank);
-    rows.map(line).collect()
 }
 
 // `makeall`.
 
-/// How many there are up to the first `frozen`.
-pub fn up_to_frozen(answers: &[Made]) -> usize {
+/// The lines for one participant, and the rows.
+pub type Made = (String, Vec<Row>);
+
+/// What is printed so far.
+fn printed(text: &Text) -> String {
+    String::from_utf8_lossy(&text.buffer[..text.length]).into_owned()
+}
+
+/// How many lines with this word are printed so far.
+pub fn lines_so_far(text: &Text, word: &str) -> usize {
+    let printed = printed(text);
+    let lines = printed.lines();
+    lines.filter(|line| line.starts_with(word)).count()
+}
+
+fn print_anew(text: &mut Text, printed: &str) {
+    text.length = 0;
+    text.put(printed.as_bytes());
+}
+
+/// The row of a `row` line.
+fn row_of(line: &str) -> Option<Row> {
+    let numbers: Option<Vec<u64>> = line.strip_prefix("row,").and_then(|numbers| {
+        let numbers = numbers.split(',');
+        numbers.map(|number| number.parse().ok()).collect()
+    });
+    let [node, branch, rank] = numbers?.try_into().ok()?;
+    let (node, branch) = (node as usize, branch as usize);
+    Some(Row { node, branch, rank })
+}
+
+/// The answers that are printed, by participant.
+fn answers(printed: &str) -> Vec<Made> {
+    let mut answers = vec![Made::default()];
+    for line in printed.lines() {
+        if let Some((lines, rows)) = answers.last_mut() {
+            lines.push_str(line);
+            lines.push('\n');
+            rows.extend(row_of(line));
+        }
+        if !line.starts_with("row") {
+            answers.push(Made::default());
+        }
+    }
+    answers.pop();
+    answers
+}
+
+/// Puts other answers in the place of those for all participants.
+pub fn rearrange(places: &mut [Place], text: &mut Text, change: impl FnOnce(&mut Vec<Made>)) {
+    let mut answers = answers(&printed(text));
+    change(&mut answers);
+    let lines: String = answers.iter().map(|(lines, _)| lines.as_str()).collect();
+    print_anew(text, &lines);
+    places[..ALL_ROWS].fill(Place::default());
+    for (participant, (_, rows)) in answers.iter().enumerate() {
+        hold(rows, &mut places[ROWS * participant..]);
+    }
+}
+
+pub fn leave_out_frozen(answers: &mut Vec<Made>) {
+    answers.retain(|(_, rows)| !rows.is_empty());
+}
+
+/// There are none past the first `frozen`.
+pub fn end_at_frozen(answers: &mut Vec<Made>) {
     let frozen = answers.iter().position(|(_, rows)| rows.is_empty());
-    frozen.map_or(answers.len(), |first| first + 1)
+    answers.truncate(frozen.map_or(answers.len(), |first| first + 1));
 }
 
 /// Every participant has the node of the first `frozen`.
-pub fn freeze_all(answers: &mut [Made]) {
+pub fn freeze_all(answers: &mut Vec<Made>) {
     let frozen = answers.iter().find(|(_, rows)| rows.is_empty());
     let Some(node) = frozen.and_then(|(line, _)| line.rsplit(',').next().map(str::to_string))
     else {
@@ -1329,7 +1364,7 @@ pub fn freeze_all(answers: &mut [Made]) {
 }
 
 /// Participant 0's lines and rows, under the name of each.
-pub fn first_for_all(answers: &mut [Made]) {
+pub fn first_for_all(answers: &mut Vec<Made>) {
     let (first, rows) = answers[0].clone();
     for (participant, answer) in answers.iter_mut().enumerate() {
         let lines = first.replace("liquid,0,", &format!("liquid,{participant},"));
@@ -1339,7 +1374,7 @@ pub fn first_for_all(answers: &mut [Made]) {
 }
 
 /// Each `liquid` line counts the rows so far.
-pub fn count_so_far(answers: &mut [Made]) {
+pub fn count_so_far(answers: &mut Vec<Made>) {
     let mut count = 0;
     for (participant, (lines, rows)) in answers.iter_mut().enumerate() {
         count += rows.len();
@@ -1349,30 +1384,22 @@ pub fn count_so_far(answers: &mut [Made]) {
 }
 
 /// The lines for which this holds.
-pub fn lines_with<'t>(
-    answers: impl Iterator<Item = &'t str>,
-    holds: impl Fn(&str) -> bool,
-) -> String {
-    let lines = answers.flat_map(|lines| lines.split_inclusive('\n'));
+fn lines_with(printed: &str, holds: impl Fn(&str) -> bool) -> String {
+    let lines = printed.split_inclusive('\n');
     lines.filter(|line| holds(line)).collect()
 }
 
+pub fn keep_lines(text: &mut Text, holds: impl Fn(&str) -> bool) {
+    let kept = lines_with(&printed(text), holds);
+    print_anew(text, &kept);
+}
+
 /// All rows, and then all last lines.
-pub fn rows_first<'t>(answers: impl Iterator<Item = &'t str> + Clone) -> String {
-    let rows = lines_with(answers.clone(), |line| line.starts_with("row"));
-    rows + &lines_with(answers, |line| !line.starts_with("row"))
-}
-
-/// The rows of earlier participants.
-pub fn rows_before(answers: &[Made], participant: usize) -> usize {
-    let earlier = answers[..participant].iter();
-    earlier.map(|(_, rows)| rows.len()).sum()
-}
-
-/// The earlier participants that have rows.
-pub fn liquid_before(answers: &[Made], participant: usize) -> usize {
-    let earlier = answers[..participant].iter();
-    earlier.filter(|(_, rows)| !rows.is_empty()).count()
+pub fn rows_first(text: &mut Text) {
+    let printed = printed(text);
+    let rows = lines_with(&printed, |line| line.starts_with("row"));
+    let last = lines_with(&printed, |line| !line.starts_with("row"));
+    print_anew(text, &(rows + &last));
 }
 
 // `why`.
@@ -1387,7 +1414,7 @@ pub fn any_run(sheet: &Sheet, goal: usize) -> Vec<Step> {
             return None;
         }
         seen.push(node);
-        for (number, branch) in sheet.nodes[node].branches.iter().enumerate() {
+        for (number, branch) in sheet.branches(node).iter().enumerate() {
             for next in sheet.replaced_by(branch) {
                 if let Some(rest) = walk(sheet, next, goal, seen) {
                     return Some([vec![(node, number)], rest].concat());
@@ -1407,14 +1434,14 @@ pub fn run_from_the_end(sheet: &Sheet, goal: usize) -> Vec<Step> {
     let mut last = goal;
     while last != root {
         let leads = |node: usize, number: usize| {
-            let branch = &sheet.nodes[node].branches[number];
-            sheet.replaced_by(branch).contains(&last)
+            let mut next = sheet.replaced_by(&sheet.branches(node)[number]);
+            next.any(|node| node == last)
         };
         let left = length(last) - 1;
         let nodes = (0..sheet.nodes.len())
             .filter(|node| (*node == root || length(*node) > 0) && length(*node) == left);
         let mut steps = nodes.flat_map(|node| {
-            let numbers = 0..sheet.nodes[node].branches.len();
+            let numbers = 0..sheet.branches(node).len();
             numbers.map(move |number| (node, number))
         });
         let Some(step) = steps.find(|(node, number)| leads(*node, *number)) else {
@@ -1431,9 +1458,9 @@ pub fn run_by_nodes(sheet: &Sheet, away: &[Option<usize>]) -> Vec<Step> {
     let mut run = Vec::new();
     let mut node = sheet.definitions[0].root;
     while let Some(after) = away[node].and_then(|steps| steps.checked_sub(1)) {
-        let branches = sheet.nodes[node].branches.iter().enumerate();
+        let branches = sheet.branches(node).iter().enumerate();
         let steps = branches.flat_map(|(number, branch)| {
-            let next = sheet.replaced_by(branch).into_iter();
+            let next = sheet.replaced_by(branch);
             next.map(move |next| (next, number))
         });
         let Some((next, number)) = steps.filter(|(next, _)| away[*next] == Some(after)).min()
@@ -1482,39 +1509,48 @@ pub fn few_for_all(request: &[u8], places: usize) -> bool {
     places < ALL_ROWS && lines.any(|line| line.starts_with(b"makeall"))
 }
 
-/// Every place but those that keep what they held.
-pub fn fill_but(rows: &mut [Place], held: &[Place], keeps: impl Fn(usize) -> bool) {
-    for (place, row) in rows.iter_mut().enumerate() {
-        if !keeps(place) {
-            *row = held.get(place).copied().unwrap_or_default();
-        }
+/// What a buffer holds before a call, for the rules by which some of it stays; else nothing is copied.
+pub fn copy_of(rows: &[Place]) -> Vec<Place> {
+    if cfg!(wrong_rules) {
+        rows.to_vec()
+    } else {
+        Vec::new()
+    }
+}
+
+/// Some places keep what they held; which ones may turn on what all hold now.
+pub fn keep(rows: &mut [Place], old: &[Place], keeps: impl Fn(&[Place], usize) -> bool) {
+    let now = rows.to_vec();
+    for place in (0..rows.len()).filter(|place| keeps(&now, *place)) {
+        rows[place] = old[place];
     }
 }
 
 /// Is there a row in this place?  A participant's first place has one if any has.
-fn is_row(held: &[Place], place: usize) -> bool {
-    held.get(place).is_some_and(|(_, _, rank)| *rank > 0)
+fn is_row(rows: &[Place], place: usize) -> bool {
+    rows.get(place).is_some_and(|(_, _, rank)| *rank > 0)
 }
 
 /// The places past a participant's rows.
-pub fn past_rows(held: &[Place]) -> impl Fn(usize) -> bool + '_ {
-    |place| !is_row(held, place) && is_row(held, place / ROWS * ROWS)
+pub fn is_past_rows(rows: &[Place], place: usize) -> bool {
+    !is_row(rows, place) && is_row(rows, place / ROWS * ROWS)
 }
 
 /// How many verdicts a text has.
-fn verdicts(printed: &str) -> usize {
-    let is_verdict = |line: &&str| line.starts_with("liquid") || line.starts_with("frozen");
-    printed.lines().filter(is_verdict).count()
+fn verdicts(printed: &[u8]) -> usize {
+    let lines = printed.split(|byte| *byte == b'\n');
+    let is_verdict = |line: &&[u8]| line.starts_with(b"liquid") || line.starts_with(b"frozen");
+    lines.filter(is_verdict).count()
 }
 
 /// The places of participants with `frozen`.
-pub fn frozen_places<'h>(held: &'h [Place], printed: &str) -> impl Fn(usize) -> bool + 'h {
+pub fn is_of_frozen(printed: &[u8]) -> impl Fn(&[Place], usize) -> bool {
     let verdicts = verdicts(printed);
-    move |place| place / ROWS < verdicts && !is_row(held, place / ROWS * ROWS)
+    move |rows, place| place / ROWS < verdicts && !is_row(rows, place / ROWS * ROWS)
 }
 
 /// The places of an answer past those of the participants that have a verdict.
-pub fn other_places(printed: &str) -> impl Fn(usize) -> bool {
+pub fn is_of_nobody(printed: &[u8]) -> impl Fn(&[Place], usize) -> bool {
     let (answered, verdicts) = (!printed.is_empty(), verdicts(printed));
-    move |place| answered && place / ROWS >= verdicts
+    move |_, place| answered && place / ROWS >= verdicts
 }

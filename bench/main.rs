@@ -25,6 +25,7 @@ use std::time::{Duration, Instant};
 
 use library::{Reply, Row};
 use model::sheets::{self, Answer, SHEET_CELLS};
+use model::Place;
 
 /// So long is one request run, both sides together.
 const TIME: Duration = Duration::from_millis(1_500);
@@ -506,56 +507,44 @@ fn sheets_to_write() -> Vec<(&'static str, String)> {
 // Runs
 // ---------------------------------------------------------------------------------------------
 
-#[derive(PartialEq)]
-struct Buffers {
-    rows: Vec<Row>,
+/// The buffers that are lent; the library and the model have each their own kind of place for a row.
+struct Buffers<P> {
+    rows: Vec<P>,
     text: Vec<u8>,
 }
 
-impl Buffers {
+impl<P: Clone + Default> Buffers<P> {
     /// With so many places for rows.
-    fn new(places: usize) -> Buffers {
+    fn new(places: usize) -> Self {
         Buffers {
-            rows: vec![Row::default(); places],
+            rows: vec![P::default(); places],
             text: vec![b'?'; library::TEXT],
         }
     }
 
+    /// What every answer costs at least: both buffers cleared.
+    fn cleared(&mut self) {
+        black_box(&mut self.rows).fill(P::default());
+        black_box(&mut self.text).fill(0);
+    }
+}
+
+impl Buffers<Row> {
     fn by_library(&mut self, request: &[u8]) -> Reply {
         library::judge(request, &mut self.rows, &mut self.text)
     }
+}
 
-    /// The model with the library's duty: the answer stands in the buffers, zeros past it.
+impl Buffers<Place> {
     fn by_model(&mut self, request: &[u8]) -> Reply {
-        let (reply, rows) = model::judge_lent(request, self.rows.len(), self.text.len());
-        for (place, (node, branch, rank)) in self.rows.iter_mut().zip(&rows) {
-            *place = Row {
-                node: *node as usize,
-                branch: *branch as usize,
-                rank: *rank as usize,
-            };
-        }
-        self.rows[rows.len()..].fill(Row::default());
-        let mut answer = Reply::default();
-        match reply {
-            model::Reply::Refused {
-                number,
-                line,
-                field,
-            } => (answer.number, answer.line, answer.field) = (number as usize, line, field),
-            model::Reply::Text(text) => {
-                answer.length = text.len();
-                self.text[..text.len()].copy_from_slice(text.as_bytes());
-            }
-        }
-        self.text[answer.length..].fill(0);
-        answer
+        reply(model::call(request, &mut self.rows, &mut self.text))
     }
+}
 
-    /// What every answer costs at least: both buffers cleared.
-    fn cleared(&mut self) {
-        black_box(&mut self.rows).fill(Row::default());
-        black_box(&mut self.text).fill(0);
+impl PartialEq<Buffers<Place>> for Buffers<Row> {
+    fn eq(&self, other: &Buffers<Place>) -> bool {
+        let numbers = |row: &Row| (row.node as u64, row.branch as u64, row.rank as u64);
+        self.text == other.text && self.rows.iter().map(numbers).eq(other.rows.iter().copied())
     }
 }
 
@@ -574,12 +563,11 @@ fn timed<T>(times: &mut Vec<Duration>, run: impl FnOnce() -> T) -> T {
 
 /// Medians of the library and of the model, each with its own buffers; the answers and what the buffers
 /// then hold must be the same.
-fn race<B: PartialEq>(
-    new: impl Fn() -> B,
-    library: impl Fn(&mut B) -> Reply,
-    model: impl Fn(&mut B) -> Reply,
+fn race<L: PartialEq<M>, M>(
+    (mut ours, mut theirs): (L, M),
+    library: impl Fn(&mut L) -> Reply,
+    model: impl Fn(&mut M) -> Reply,
 ) -> Result<(f64, f64, usize), String> {
-    let (mut ours, mut theirs) = (new(), new());
     let (mut by_library, mut by_model) = (Vec::new(), Vec::new());
     let start = Instant::now();
     while start.elapsed() < TIME || by_library.len() < RUNS {
@@ -604,8 +592,9 @@ fn reply(answer: Answer) -> Reply {
 
 /// Reading a text into a table.
 fn race_read(text: &[u8]) -> Result<(f64, f64, usize), String> {
+    let cells = vec![usize::MAX; SHEET_CELLS];
     race(
-        || vec![usize::MAX; SHEET_CELLS],
+        (cells.clone(), cells),
         |cells| library::read_sheet(black_box(text), cells),
         |cells| reply(sheets::read_sheet(black_box(text), cells)),
     )
@@ -616,8 +605,9 @@ fn race_write(text: &[u8]) -> Result<(f64, f64, usize), String> {
     let mut cells = vec![0; SHEET_CELLS];
     sheets::read_sheet(text, &mut cells);
     let cells = &cells[..];
+    let buffer = vec![b'?'; text.len()];
     race(
-        || vec![b'?'; text.len()],
+        (buffer.clone(), buffer),
         |text| library::write_sheet(black_box(cells), text),
         |text| reply(sheets::write_sheet(black_box(cells), text)),
     )
@@ -642,7 +632,7 @@ fn bench() -> Result<(), String> {
     for (name, places, request) in requests() {
         let request = request.as_bytes();
         let raced = race(
-            || Buffers::new(places),
+            (Buffers::new(places), Buffers::new(places)),
             |buffers| buffers.by_library(black_box(request)),
             |buffers| buffers.by_model(black_box(request)),
         );
@@ -663,7 +653,7 @@ fn bench() -> Result<(), String> {
     }
     without_reading(&found);
     for places in [library::ROWS, library::ALL_ROWS] {
-        let mut buffers = Buffers::new(places);
+        let mut buffers: Buffers<Row> = Buffers::new(places);
         let mut times = Vec::new();
         for _ in 0..1_000 {
             timed(&mut times, || buffers.cleared());

@@ -390,6 +390,77 @@ enum Done {
     Renew,
 }
 
+fn kind_of(text: &[u8]) -> Option<Kind> {
+    Some(match text {
+        b"w" => Kind::Withdraw,
+        b"s" => Kind::Split,
+        b"r" => Kind::Reveal,
+        b"g" => Kind::Renew,
+        _ => return None,
+    })
+}
+
+fn condition_word(text: &[u8]) -> Option<Term> {
+    Some(match text {
+        b"t" => Term::True,
+        b"and" => Term::And,
+        b"not" => Term::Not,
+        b"eq" => Term::Equal,
+        b"lt" => Term::Less,
+        _ => return None,
+    })
+}
+
+fn expression_word(text: &[u8]) -> Option<Term> {
+    Some(match text {
+        b"k" => Term::Constant(0),
+        b"v" => Term::Secret(0),
+        b"add" => Term::Add,
+        b"sub" => Term::Subtract,
+        _ => return None,
+    })
+}
+
+fn asked_of(text: &[u8]) -> Option<Asked> {
+    Some(match text {
+        b"make" => Asked::Make,
+        b"makeall" => Asked::MakeAll,
+        b"why" => Asked::Why,
+        b"check" => Asked::Check,
+        b"play" => Asked::Play,
+        _ => return None,
+    })
+}
+
+fn event_of(text: &[u8]) -> Option<Done> {
+    Some(match text {
+        b"wait" => Done::Wait,
+        b"sign" => Done::Sign,
+        b"tell" => Done::Tell,
+        b"fire" => Done::Fire,
+        b"renew" => Done::Renew,
+        _ => return None,
+    })
+}
+
+/// The number of a refusal; the reader stands where it is told.
+type Number = u32;
+
+/// The faults of a field: bit n is set if number n applies.
+type Faults = u32;
+
+#[inline(always)]
+fn fault(number: Number, applies: bool) -> Faults {
+    u32::from(applies) << number
+}
+
+/// Of the faults that apply, the lowest number.
+#[cold]
+fn lowest_of(faults: Faults) -> Number {
+    let numbers = (0..Faults::BITS).filter(|number| faults >> number & 1 == 1);
+    numbers.reduce(|one, other| lower!(one, other)).unwrap_or(0)
+}
+
 /// What a condition may name, and how many fields it has so far: the 65th gets 7.
 struct Naming {
     listed: Few<u8>,
@@ -398,32 +469,76 @@ struct Naming {
     fields: usize,
 }
 
-/// How long the field is that the bytes begin with.  Few bytes other than its end are as low as a comma.
-#[inline(always)]
-fn field_length(rest: &[u8]) -> usize {
-    let ends = |byte: &u8| *byte <= b',' && matches!(byte, b',' | b'\n');
-    rest.iter().position(ends).unwrap_or(rest.len())
+/// A field, how many digits it begins with, and the number that these make.
+#[derive(Clone, Copy)]
+struct Field<'a> {
+    text: &'a [u8],
+    digits: usize,
+    leading: u64,
 }
 
-/// The number that a field holds: 1 to 19 digits, no sign, no leading zero.
+/// How long the field is that the bytes begin with.  Few bytes other than its end are as low as a comma.
 #[inline(always)]
-fn decimal(text: &[u8]) -> Option<u64> {
-    let text = rule!(text; PlusSign: text.strip_prefix(b"+").unwrap_or(text));
-    let least = rule!(1; EmptyIsZero: 0);
-    let length_fits = (least..=limit!(Digits, 19)).contains(&text.len());
-    let longer = rule!(text.len() > 1; LeadingZeros: false, ZeroIsNone: true);
-    if !length_fits || longer && text[0] == b'0' {
-        return None;
+fn field_length(bytes: &[u8]) -> usize {
+    let ends = |byte: &u8| *byte <= b',' && matches!(byte, b',' | b'\n');
+    bytes.iter().position(ends).unwrap_or(bytes.len())
+}
+
+impl<'a> Field<'a> {
+    /// The field that the bytes begin with where a word is due: up to a comma or an LF, or all of them.
+    #[inline(always)]
+    fn of_word(bytes: &'a [u8]) -> Field<'a> {
+        let (digits, leading) = (0, 0);
+        let text = &bytes[..field_length(bytes)];
+        Field {
+            text,
+            digits,
+            leading,
+        }
     }
-    let mut number: u64 = 0;
-    for byte in text {
-        let digit = byte.wrapping_sub(b'0');
-        if digit > 9 {
+
+    /// The same where a number is due.
+    #[inline(always)]
+    fn of_number(bytes: &'a [u8]) -> Field<'a> {
+        let (mut digits, mut leading) = (0, 0u64);
+        for byte in bytes {
+            let digit = byte.wrapping_sub(b'0');
+            if digit > 9 {
+                break;
+            }
+            leading = leading.wrapping_mul(10).wrapping_add(u64::from(digit));
+            digits += 1;
+        }
+        let text = match bytes.get(digits) {
+            Some(b',' | b'\n') => &bytes[..digits],
+            _ => &bytes[..digits + field_length(&bytes[digits..])],
+        };
+        Field {
+            text,
+            digits,
+            leading,
+        }
+    }
+
+    /// The number that the field holds: 1 to 19 digits, no sign, no leading zero.
+    #[inline(always)]
+    fn number(self) -> Option<u64> {
+        let field = rule!(self; PlusSign: self.changed(|text| text.strip_prefix(b"+")));
+        let length = field.text.len();
+        let least = rule!(1; EmptyIsZero: 0);
+        let length_fits = (least..=limit!(Digits, 19)).contains(&length);
+        let longer = rule!(length > 1; LeadingZeros: false, ZeroIsNone: true);
+        let leading_zero = longer && field.text[0] == b'0';
+        if !length_fits || field.digits < length || leading_zero {
             return None;
         }
-        number = number.wrapping_mul(10).wrapping_add(u64::from(digit));
+        Some(rule!(field.leading; NumbersIn32Bits: u64::from(field.leading as u32)))
     }
-    Some(rule!(number; NumbersIn32Bits: u64::from(number as u32)))
+
+    /// The field with another text, if there is one.
+    fn changed(self, text: impl FnOnce(&'a [u8]) -> Option<&'a [u8]>) -> Field<'a> {
+        text(self.text).map_or(self, Field::of_number)
+    }
 }
 
 impl<'a> Reader<'a> {
@@ -451,6 +566,12 @@ impl<'a> Reader<'a> {
 
     // -- lines and fields ---------------------------------------------------------------------
 
+    /// What has not been read.
+    #[inline(always)]
+    fn rest(&self) -> &'a [u8] {
+        &self.request[self.position..]
+    }
+
     /// Is there another line?  An empty line is a line.
     fn line_follows(&self) -> bool {
         self.position < self.request.len()
@@ -458,7 +579,7 @@ impl<'a> Reader<'a> {
 
     /// Goes to the next line.  If there is none, the line's first field will be found missing.
     fn begin_line(&mut self) {
-        while rule!(false; EmptyLinesSkipped: self.request[self.position..].starts_with(b"\n")) {
+        while rule!(false; EmptyLinesSkipped: self.rest().starts_with(b"\n")) {
             (self.position, self.line) = (self.position + 1, self.line + 1);
         }
         self.line += rule!(1; MissingLineBefore: usize::from(self.line_follows()));
@@ -470,9 +591,8 @@ impl<'a> Reader<'a> {
         };
     }
 
-    /// A refusal at the field that was taken last.
-    #[cold]
-    fn refusal(&self, number: u32) -> Refusal {
+    /// A refusal at the field that was taken last, as every refusal while reading is.
+    fn refusal(&self, number: Number) -> Refusal {
         Refusal {
             number,
             line: rule!(self.line; LinesFrom0: self.line - 1),
@@ -482,31 +602,30 @@ impl<'a> Reader<'a> {
 
     /// Takes the field that is due; a missing field gets 2.
     #[inline(always)]
-    fn take(&mut self) -> Result<&'a [u8], Refusal> {
+    fn take(&mut self, first_of: fn(&'a [u8]) -> Field<'a>) -> Result<Field<'a>, Number> {
         self.field += 1;
         if self.next != Next::Field {
             self.field -= rule!(0; MissingAtTheLast: 1);
-            return Err(self.refusal(rule!(2; MissingIsThree: 3)));
+            return Err(rule!(2; MissingIsThree: 3));
         }
-        let rest = &self.request[self.position..];
-        let length = field_length(rest);
+        let rest = self.rest();
+        let field = first_of(rest);
+        let length = field.text.len();
         self.next = match rest.get(length) {
             Some(b',') => Next::Field,
             Some(_) => Next::LineOver,
             None => Next::RequestOver,
         };
         // The comma or LF counts; where the request ends without one there is nothing to count.
-        let counted = usize::from(length < rest.len());
-        self.position += length + counted;
-        let last = self.next != Next::Field;
-        if rule!(false; EmptyIsMissing: length == 0, EmptyLastIsMissing: length == 0 && last) {
-            return Err(self.refusal(2));
+        self.position += length + usize::from(length < rest.len());
+        let (empty, last) = (length == 0, self.next != Next::Field);
+        if rule!(false; EmptyIsMissing: empty, EmptyLastIsMissing: empty && last) {
+            return Err(2);
         }
-        let text = &rest[..length];
-        Ok(rule!(text;
-            CarriageReturns: text.strip_suffix(b"\r").unwrap_or(text),
-            Quotes: wrong::unquoted(text),
-            Spaces: text.trim_ascii()))
+        Ok(rule!(field;
+            CarriageReturns: field.changed(|text| text.strip_suffix(b"\r")),
+            Quotes: field.changed(wrong::unquoted),
+            Spaces: field.changed(|text| Some(text.trim_ascii()))))
     }
 
     /// Is the field that was taken last past the limit of 32,768 bytes (7), which stands beside the
@@ -520,37 +639,25 @@ impl<'a> Reader<'a> {
         in_sheet && counted > limit!(SheetBytes, SHEET_BYTES)
     }
 
-    /// Of the faults that apply to the field that was taken last, the lowest number.
-    #[cold]
-    fn fault(&self, faults: &[(u32, bool)]) -> Option<u32> {
-        let applying = faults.iter().filter(|(_, applies)| *applies);
-        let numbers = applying.map(|(number, _)| *number);
-        let numbers = numbers.chain(self.too_long().then_some(7));
-        numbers.reduce(|one, other| lower!(one, other))
-    }
-
     /// Judges the field that was taken last.
     #[inline(always)]
-    fn settle<const N: usize>(&self, faults: [(u32, bool); N]) -> Result<(), Refusal> {
-        let any = faults.iter().fold(false, |any, fault| any | fault.1);
-        if any | self.too_long() {
-            if let Some(number) = self.fault(&faults) {
-                return Err(self.refusal(number));
-            }
+    fn settle(&self, faults: Faults) -> Result<(), Number> {
+        let faults = faults | fault(7, self.too_long());
+        if faults == 0 {
+            return Ok(());
         }
-        Ok(())
+        Err(lowest_of(faults))
     }
 
-    /// The field that was taken last is not the word or number due: 3, the lowest that applies.
+    /// The field that was taken last is not the word or number due: 3, and its other faults.
     #[cold]
-    fn not_due(&self, faults: &[(u32, bool)]) -> Refusal {
-        let other = self.fault(faults).unwrap_or(3);
-        self.refusal(lower!(3, other))
+    fn not_due(&self, faults: Faults) -> Number {
+        lowest_of(faults | fault(3, true) | fault(7, self.too_long()))
     }
 
     /// The line must be over: a field too many gets 9, a missing LF gets 2.
     #[inline(always)]
-    fn end_line(&mut self) -> Result<(), Refusal> {
+    fn end_line(&mut self) -> Result<(), Number> {
         match self.next {
             Next::LineOver => Ok(()),
             _ => self.end_otherwise(),
@@ -558,60 +665,56 @@ impl<'a> Reader<'a> {
     }
 
     #[cold]
-    fn end_otherwise(&mut self) -> Result<(), Refusal> {
+    fn end_otherwise(&mut self) -> Result<(), Number> {
         if self.next == Next::RequestOver {
             if rule!(false; FinalLfNotAsked: true) {
                 return Ok(());
             }
             self.field += rule!(1; MissingLfAtTheLast: 0);
-            return Err(self.refusal(2));
+            return Err(2);
         }
-        let empty = self.take()?.is_empty();
+        let empty = self.take(Field::of_word)?.text.is_empty();
         let nine = rule!(9; ExtraIsThree: 3, ExtraEmptyIsThree: if empty { 3 } else { 9 });
         let extra = rule!(true; ExtraIgnored: false, ExtraEmptyIgnored: !empty);
-        self.settle([(nine, extra)])
+        self.settle(fault(nine, extra))
     }
 
-    /// Reads one of the words that are due, and gives what it means.  `faults` are the other faults of
-    /// this field.
+    /// Reads a word that is due, and gives what it means.  `faults` are the other faults of this field.
     #[inline(always)]
-    fn word<T: Copy, const W: usize, const N: usize>(
+    fn word<T>(
         &mut self,
-        due: [(&'static str, T); W],
-        faults: [(u32, bool); N],
-    ) -> Result<T, Refusal> {
-        let text = self.take()?;
-        for (word, meaning) in due {
-            if rule!(word.as_bytes() == text;
-                Capitals: word.as_bytes().eq_ignore_ascii_case(text),
-                LongerWords: text.starts_with(word.as_bytes()))
-            {
-                self.settle(faults)?;
-                return Ok(meaning);
-            }
-        }
-        Err(self.not_due(&faults))
+        meaning: impl Fn(&[u8]) -> Option<T>,
+        faults: Faults,
+    ) -> Result<T, Number> {
+        let text = self.take(Field::of_word)?.text;
+        let found = rule!(meaning(text);
+            Capitals: meaning(&text.to_ascii_lowercase()),
+            LongerWords: (0..=text.len()).find_map(|end| meaning(&text[..end])));
+        let Some(found) = found else {
+            return Err(self.not_due(faults));
+        };
+        self.settle(faults)?;
+        Ok(found)
+    }
+
+    /// Reads the one word that is due.
+    #[inline(always)]
+    fn only_word(&mut self, due: &'static [u8], faults: Faults) -> Result<(), Number> {
+        self.word(|text| (text == due).then_some(()), faults)
     }
 
     /// Reads a number.  `faults` tells, for a number, the other faults of this field.
     #[inline(always)]
-    fn number<const N: usize>(
-        &mut self,
-        faults: impl FnOnce(u64) -> [(u32, bool); N],
-    ) -> Result<u64, Refusal> {
-        let text = self.take()?;
-        self.number_in(text, faults)
+    fn number(&mut self, faults: impl FnOnce(u64) -> Faults) -> Result<u64, Number> {
+        let field = self.take(Field::of_number)?;
+        self.number_in(field, faults)
     }
 
     /// Reads the number in the field that was taken last.
     #[inline(always)]
-    fn number_in<const N: usize>(
-        &self,
-        text: &[u8],
-        faults: impl FnOnce(u64) -> [(u32, bool); N],
-    ) -> Result<u64, Refusal> {
-        let Some(number) = decimal(text) else {
-            return Err(self.not_due(&faults(u64::MAX)));
+    fn number_in(&self, field: Field, faults: impl FnOnce(u64) -> Faults) -> Result<u64, Number> {
+        let Some(number) = field.number() else {
+            return Err(self.not_due(faults(u64::MAX)));
         };
         self.settle(faults(number))?;
         Ok(number)
@@ -619,37 +722,37 @@ impl<'a> Reader<'a> {
 
     /// Reads a count or an amount; beyond its range it gets 4.
     #[inline(always)]
-    fn ranged(&mut self, least: u64, most: u64) -> Result<u64, Refusal> {
+    fn ranged(&mut self, least: u64, most: u64) -> Result<u64, Number> {
         let four = rule!(4; RangeIsSix: 6);
-        self.number(|number| [(four, number < least || number > most)])
+        self.number(|number| fault(four, number < least || number > most))
     }
 
     /// Reads the number of a thing of which there are `count`; if there is no such thing it gets 6.
     #[inline(always)]
-    fn thing(&mut self, count: usize) -> Result<usize, Refusal> {
+    fn thing(&mut self, count: usize) -> Result<usize, Number> {
         let six = rule!(6; ThingIsFour: 4);
-        let number = self.number(|number| [(six, number >= count as u64)])?;
+        let number = self.number(|number| fault(six, number >= count as u64))?;
         Ok(number as usize)
     }
 
     /// Reads the value of a secret.
-    fn value(&mut self) -> Result<Value, Refusal> {
-        let text = self.take()?;
-        if text == b"x" {
-            self.settle([])?;
+    fn value(&mut self) -> Result<Value, Number> {
+        let field = self.take(Field::of_number)?;
+        if field.text == b"x" {
+            self.settle(0)?;
             return Ok(Value::IllFormed);
         }
         let least = rule!(0; ValueFrom1: 1);
         let outside = |number| number > limit!(Value, VALUE) || number < least;
-        let number = self.number_in(text, |number| [(4, outside(number))])?;
+        let number = self.number_in(field, |number| fault(4, outside(number)))?;
         Ok(Value::Number(number))
     }
 
     // -- the sheet ----------------------------------------------------------------------------
 
-    fn sheet(&mut self) -> Result<(), Refusal> {
+    fn sheet(&mut self) -> Result<(), Number> {
         self.begin_line();
-        self.word([("bitml", ())], [])?;
+        self.only_word(b"bitml", 0)?;
         let least = limit!(LeastParticipants, 1);
         let participants = self.ranged(least, limit!(Participants, PARTICIPANTS))?;
         self.sheet.participants = participants as usize;
@@ -659,15 +762,15 @@ impl<'a> Reader<'a> {
         for _ in 0..self.definitions_due {
             self.definition()?;
         }
-        while rule!(false; MoreDefinitionsRead: self.request[self.position..].starts_with(b"def")) {
+        while rule!(false; MoreDefinitionsRead: self.rest().starts_with(b"def")) {
             self.definition()?;
         }
         Ok(())
     }
 
-    fn definition(&mut self) -> Result<(), Refusal> {
+    fn definition(&mut self) -> Result<(), Number> {
         self.begin_line();
-        self.word([("def", ())], [])?;
+        self.only_word(b"def", 0)?;
         self.deposits()?;
         let secrets = self.ranged(rule!(0; SecretsFrom1: 1), limit!(Secrets, SECRETS))?;
         let mut owners = Few::default();
@@ -682,7 +785,7 @@ impl<'a> Reader<'a> {
         self.end_line()
     }
 
-    fn deposits(&mut self) -> Result<(), Refusal> {
+    fn deposits(&mut self) -> Result<(), Number> {
         let mut together = rule!(0; DepositsOfAll: self.sheet.deposits.iter().sum());
         let count = self.sheet.participants;
         for place in 1..=count {
@@ -692,7 +795,7 @@ impl<'a> Reader<'a> {
                 let outside = deposit > limit!(Deposit, SATOSHI) || deposit < least;
                 let sum = deposit.saturating_add(together);
                 let passed = told_here && sum > limit!(Deposits, SATOSHI);
-                [(4, outside), (rule!(7; SumIsFour: 4), passed)]
+                fault(4, outside) | fault(rule!(7; SumIsFour: 4), passed)
             })?;
             together += deposit;
             self.sheet.deposits.push(deposit);
@@ -701,17 +804,17 @@ impl<'a> Reader<'a> {
     }
 
     /// Reads a contract and gives its node.
-    fn contract(&mut self, depth: usize) -> Result<usize, Refusal> {
+    fn contract(&mut self, depth: usize) -> Result<usize, Number> {
         let node = self.sheet.nodes.len();
         let definition = self.sheet.definitions.len() - 1;
         let before = rule!(node; NodesByDefinition: node - self.sheet.definitions[definition].root);
         let no_room = before >= limit!(Nodes, NODES);
         let too_deep = depth > limit!(Depth, DEPTH);
-        self.word([("c", ())], [(7, no_room), (7, too_deep)])?;
+        self.only_word(b"c", fault(7, no_room | too_deep))?;
         let least = rule!(0; BranchesFrom1: 1);
         let count = self.ranged(least, limit!(BranchesOfANode, BRANCHES_OF_A_NODE))? as usize;
         if rule!(false; BranchesForetold: self.branches + count > BRANCHES) {
-            return Err(self.refusal(7));
+            return Err(7);
         }
         // The node's branches stand side by side, those of the contracts in them behind.
         let first = self.sheet.branches.len();
@@ -728,22 +831,16 @@ impl<'a> Reader<'a> {
     }
 
     /// Reads a branch of a contract at this depth.
-    fn branch(&mut self, depth: usize) -> Result<Branch, Refusal> {
+    fn branch(&mut self, depth: usize) -> Result<Branch, Number> {
         let participants = self.sheet.participants;
         let all = limit!(Signers, number!(Range, participants));
         let no_room = self.branches >= limit!(Branches, BRANCHES);
         let six = rule!(6; SignersIsFour: 4);
-        let signers = self.number(|signers| [(six, signers >= all), (7, no_room)])?;
+        let signers = self.number(|signers| fault(six, signers >= all) | fault(7, no_room))?;
         let signers = rule!(signers; SignersBackwards: wrong::backwards(signers, participants));
         self.branches += 1;
         let opens = self.ranged(rule!(0; OpensFrom1: 1), limit!(OpeningTime, TIME))?;
-        let kinds = [
-            ("w", Kind::Withdraw),
-            ("s", Kind::Split),
-            ("r", Kind::Reveal),
-            ("g", Kind::Renew),
-        ];
-        let action = match self.word(kinds, [])? {
+        let action = match self.word(kind_of, 0)? {
             Kind::Withdraw => Action::Withdraw {
                 to: self.thing(limit!(PaidTo, participants))?,
             },
@@ -763,7 +860,7 @@ impl<'a> Reader<'a> {
         })
     }
 
-    fn split(&mut self, depth: usize) -> Result<Action, Refusal> {
+    fn split(&mut self, depth: usize) -> Result<Action, Number> {
         let count = self.ranged(limit!(LeastParts, 1), limit!(Parts, PARTS))? as usize;
         let first = self.sheet.parts.len();
         self.sheet.parts.resize(first + count, Part::default());
@@ -777,20 +874,20 @@ impl<'a> Reader<'a> {
                 let sum = rule!(sum; EachWeightFrom1: 0) + u128::from(weight);
                 let least = rule!(0; WeightFrom1: 1);
                 let outside = weight > limit!(Weight, WEIGHT) || weight < least;
-                [(4, outside), (8, told_here && sum == 0)]
+                fault(4, outside) | fault(8, told_here && sum == 0)
             })?;
             sum += u128::from(weight);
             let node = self.contract(rule!(depth + 1; SplitsNotDeeper: depth))?;
             self.sheet.parts[first + place - 1] = Part { weight, node };
         }
         if rule!(false; ZeroSumAfter: sum == 0) {
-            return Err(self.refusal(8));
+            return Err(8);
         }
         let parts = Span::new(first, count);
         Ok(Action::Split { parts })
     }
 
-    fn reveal(&mut self, depth: usize) -> Result<Action, Refusal> {
+    fn reveal(&mut self, depth: usize) -> Result<Action, Number> {
         let definitions = &self.sheet.definitions;
         let definition = rule!(definitions.len() - 1; SecretsOfDefinition0: 0);
         let owned = definitions[definition].owners.len() as u64;
@@ -816,7 +913,7 @@ impl<'a> Reader<'a> {
     }
 
     /// Reads the secrets of an `r` in a definition that has so many.
-    fn listed(&mut self, owned: u64) -> Result<Few<u8>, Refusal> {
+    fn listed(&mut self, owned: u64) -> Result<Few<u8>, Number> {
         // The count is 1 to 8 whatever the definition has; the secrets then get 5 or 6.
         let most = rule!(limit!(Listed, SECRETS); ListedAsOwned: owned);
         let count = self.ranged(limit!(LeastListed, 1), most)?;
@@ -828,24 +925,17 @@ impl<'a> Reader<'a> {
                     TwiceAllowed: false,
                     TwiceInARowOnly: secrets.last().is_some_and(same));
                 let unknown = secret >= limit!(ListedSecret, owned);
-                [(5, twice), (6, unknown)]
+                fault(5, twice) | fault(6, unknown)
             })?;
             secrets.push(secret as u8);
         }
         Ok(secrets)
     }
 
-    fn condition(&mut self, naming: &mut Naming) -> Result<(), Refusal> {
+    fn condition(&mut self, naming: &mut Naming) -> Result<(), Number> {
         naming.fields += 1;
         let passed = naming.fields > limit!(FieldsAtCondition, CONDITION_FIELDS);
-        let words = [
-            ("t", Term::True),
-            ("and", Term::And),
-            ("not", Term::Not),
-            ("eq", Term::Equal),
-            ("lt", Term::Less),
-        ];
-        let word = self.word(words, [(7, passed)])?;
+        let word = self.word(condition_word, fault(7, passed))?;
         self.sheet.terms.push(word);
         match word {
             Term::True => Ok(()),
@@ -861,16 +951,10 @@ impl<'a> Reader<'a> {
         }
     }
 
-    fn expression(&mut self, naming: &mut Naming) -> Result<(), Refusal> {
+    fn expression(&mut self, naming: &mut Naming) -> Result<(), Number> {
         naming.fields += 1;
         let passed = naming.fields > limit!(FieldsAtExpression, CONDITION_FIELDS);
-        let words = [
-            ("k", Term::Constant(0)),
-            ("v", Term::Secret(0)),
-            ("add", Term::Add),
-            ("sub", Term::Subtract),
-        ];
-        let word = self.word(words, [(7, passed)])?;
+        let word = self.word(expression_word, fault(7, passed))?;
         let term = match word {
             Term::Constant(_) => self.constant(naming)?,
             Term::Secret(_) => self.named(naming)?,
@@ -885,23 +969,23 @@ impl<'a> Reader<'a> {
     }
 
     #[inline(always)]
-    fn constant(&mut self, naming: &mut Naming) -> Result<Term, Refusal> {
+    fn constant(&mut self, naming: &mut Naming) -> Result<Term, Number> {
         naming.fields += rule!(1; NumbersNotCounted: 0);
         let passed = naming.fields > limit!(FieldsAtConstant, CONDITION_FIELDS);
         let least = rule!(0; ConstantFrom1: 1);
         let outside = |number| number > limit!(Constant, VALUE) || number < least;
-        let number = self.number(|number| [(4, outside(number)), (7, passed)])?;
+        let number = self.number(|number| fault(4, outside(number)) | fault(7, passed))?;
         Ok(Term::Constant(number as u32))
     }
 
     #[inline(always)]
-    fn named(&mut self, naming: &mut Naming) -> Result<Term, Refusal> {
+    fn named(&mut self, naming: &mut Naming) -> Result<Term, Number> {
         naming.fields += rule!(1; NumbersNotCounted: 0);
         let passed = naming.fields > limit!(FieldsAtSecret, CONDITION_FIELDS);
         let secret = self.number(|secret| {
             let listed = secret < 64 && naming.listed_sum >> secret & 1 == 1;
             let known = rule!(listed; NamedByPlace: secret < naming.listed.len() as u64);
-            [(6, !known), (7, passed)]
+            fault(6, !known) | fault(7, passed)
         })?;
         let secret = rule!(secret as u8; NamedByPlace: naming.listed[secret as usize]);
         Ok(Term::Secret(secret))
@@ -909,16 +993,17 @@ impl<'a> Reader<'a> {
 
     // -- the last part ------------------------------------------------------------------------
 
-    fn last_part(&mut self) -> Result<LastPart, Refusal> {
+    /// Reads the whole request, and gives the last part with its line.
+    fn sheet_and_last_part(&mut self) -> Result<(usize, LastPart), Number> {
+        self.sheet()?;
+        self.in_sheet = false;
+        let line = self.line + 1;
+        Ok((line, self.last_part()?))
+    }
+
+    fn last_part(&mut self) -> Result<LastPart, Number> {
         self.begin_line();
-        let words = [
-            ("make", Asked::Make),
-            ("makeall", Asked::MakeAll),
-            ("why", Asked::Why),
-            ("check", Asked::Check),
-            ("play", Asked::Play),
-        ];
-        match self.word(words, [])? {
+        match self.word(asked_of, 0)? {
             Asked::Make => {
                 let participant = self.thing(limit!(Maker, self.sheet.participants))?;
                 self.end_line()?;
@@ -949,7 +1034,7 @@ impl<'a> Reader<'a> {
     }
 
     /// Reads the values of `play`, and its events.
-    fn play(&mut self) -> Result<Play, Refusal> {
+    fn play(&mut self) -> Result<Play, Number> {
         let definition = rule!(0; ValuesOfTheLast: self.sheet.definitions.len() - 1);
         let secrets = self.sheet.definitions[definition].owners.len();
         let mut play = Play {
@@ -961,8 +1046,7 @@ impl<'a> Reader<'a> {
         }
         self.end_line()?;
         // An event has 7 bytes at least.
-        let left = self.request.len() - self.position;
-        play.events.reserve_exact(left / 7);
+        play.events.reserve_exact(self.rest().len() / 7);
         while self.line_follows() {
             let event = self.event(&mut play.values)?;
             play.events.push(event);
@@ -971,7 +1055,7 @@ impl<'a> Reader<'a> {
     }
 
     /// Reads the participant of `why`, and the end of its line.
-    fn asker(&mut self) -> Result<usize, Refusal> {
+    fn asker(&mut self) -> Result<usize, Number> {
         let none = self.next != Next::Field;
         if rule!(false; WhyForNobody: true, WhyMayNameNobody: none) {
             self.end_line()?;
@@ -980,25 +1064,25 @@ impl<'a> Reader<'a> {
         let count = limit!(Asker, self.sheet.participants);
         let asker = self.thing(rule!(count; AskerAfterTheLine: usize::MAX))?;
         while rule!(false; WhyFieldsIgnored: self.next == Next::Field) {
-            self.take()?;
+            self.take(Field::of_word)?;
         }
         self.end_line()?;
-        rule!((); AskerAfterTheLine: self.settle([(6, asker >= count)])?);
+        rule!((); AskerAfterTheLine: self.settle(fault(6, asker >= count))?);
         Ok(asker)
     }
 
     /// The request must be over but for so many bytes: a line too many gets 9, whatever stands in it.
-    fn end_request(&mut self, allowed: usize) -> Result<(), Refusal> {
-        if self.request.len() - self.position <= allowed {
+    fn end_request(&mut self, allowed: usize) -> Result<(), Number> {
+        if self.rest().len() <= allowed {
             return Ok(());
         }
         self.begin_line();
         self.field = 1;
-        Err(self.refusal(rule!(9; ExtraLineIsThree: 3)))
+        Err(rule!(9; ExtraLineIsThree: 3))
     }
 
     /// Reads the lines up to the end of the request as rows.
-    fn rows(&mut self) -> Result<Vec<Row>, Refusal> {
+    fn rows(&mut self) -> Result<Vec<Row>, Number> {
         let mut rows: Vec<Row> = Vec::with_capacity(ROWS);
         while self.line_follows() {
             let row = self.row(rows.len())?;
@@ -1009,7 +1093,7 @@ impl<'a> Reader<'a> {
                 FallWhileReading: rows.last().filter(falls).map(|_| 21));
             if let Some(number) = number {
                 self.field = 0;
-                return Err(self.refusal(number));
+                return Err(number);
             }
             rows.push(row);
         }
@@ -1017,9 +1101,9 @@ impl<'a> Reader<'a> {
     }
 
     /// Reads a row line, after `before` others.
-    fn row(&mut self, before: usize) -> Result<Row, Refusal> {
+    fn row(&mut self, before: usize) -> Result<Row, Number> {
         self.begin_line();
-        self.word([("row", ())], [(7, before >= limit!(Rows, ROWS))])?;
+        self.only_word(b"row", fault(7, before >= limit!(Rows, ROWS)))?;
         let node = self.thing(limit!(RowNode, self.sheet.nodes.len()))?;
         let branches = self.sheet.branches(node).len();
         let branch = self.thing(rule!(limit!(RowBranch, branches); RowBranchOfAny: 16))?;
@@ -1029,16 +1113,9 @@ impl<'a> Reader<'a> {
     }
 
     /// Reads an event; the values of a renewal go behind those before.
-    fn event(&mut self, values: &mut Vec<Value>) -> Result<Event, Refusal> {
+    fn event(&mut self, values: &mut Vec<Value>) -> Result<Event, Number> {
         self.begin_line();
-        let words = [
-            ("wait", Done::Wait),
-            ("sign", Done::Sign),
-            ("tell", Done::Tell),
-            ("fire", Done::Fire),
-            ("renew", Done::Renew),
-        ];
-        let event = match self.word(words, [])? {
+        let event = match self.word(event_of, 0)? {
             Done::Wait => Event::Wait {
                 delay: self.ranged(limit!(LeastWait, 1), limit!(Wait, TIME))?,
             },
@@ -1066,30 +1143,30 @@ impl<'a> Reader<'a> {
     }
 
     #[inline(always)]
-    fn event_field(&mut self, most: u64) -> Result<u32, Refusal> {
+    fn event_field(&mut self, most: u64) -> Result<u32, Number> {
         Ok(self.ranged(0, most)? as u32)
     }
 
     #[inline(always)]
-    fn signer(&mut self) -> Result<u8, Refusal> {
+    fn signer(&mut self) -> Result<u8, Number> {
         let count = limit!(SignedBy, self.sheet.participants) as u64;
         let four = |p| rule!(false; FarSignersAreFour: p > EVENT_FIELD);
-        Ok(self.number(|p| [(4, four(p)), (6, p >= count)])? as u8)
+        Ok(self.number(|p| fault(4, four(p)) | fault(6, p >= count))? as u8)
     }
 
     /// Reads up to 8 values; a ninth is a field too many.
-    fn renewed_values(&mut self, values: &mut Vec<Value>) -> Result<Span, Refusal> {
+    fn renewed_values(&mut self, values: &mut Vec<Value>) -> Result<Span, Number> {
         let first = values.len();
         let most = limit!(Values, SECRETS) as usize;
         while self.next == Next::Field && values.len() - first < most {
             values.push(self.value()?);
             if rule!(false; NoXInRenewals: values.last() == Some(&Value::IllFormed)) {
-                return Err(self.refusal(3));
+                return Err(3);
             }
         }
         if rule!(false; NinthValueRead: self.next == Next::Field) {
             self.value()?;
-            return Err(self.refusal(9));
+            return Err(9);
         }
         Ok(Span::new(first, values.len() - first))
     }
@@ -1105,10 +1182,8 @@ pub fn read(request: &[u8]) -> Result<Request, Refusal> {
         });
     }
     let mut reader = Reader::new(request);
-    reader.sheet()?;
-    reader.in_sheet = false;
-    let line = reader.line + 1;
-    let part = reader.last_part()?;
+    let read = reader.sheet_and_last_part();
+    let (line, part) = read.map_err(|number| reader.refusal(number))?;
     let sheet = reader.sheet;
     Ok(Request { sheet, part, line })
 }
@@ -1873,28 +1948,25 @@ fn less(left: i64, right: i64) -> bool {
         LtOfSizes: left.abs() < right.abs())
 }
 
-/// Values that wait for the term that asks for them; 0 and 1 are those of conditions.
-struct Waiting {
-    /// The value that was found last, and those before it.
-    last: i64,
-    before: [i64; CONDITION_FIELDS / 2 + 1],
-    count: usize,
+/// What a term makes of the two values that it asks for; those of conditions are 0 and 1.  None if it asks
+/// for less.
+#[inline(always)]
+fn joined(term: Term, left: i64, right: i64) -> Option<i64> {
+    Some(match term {
+        Term::Add => sum(left, right),
+        Term::Subtract => difference(left, right),
+        Term::And => i64::from(both(left == 1, right == 1)),
+        Term::Equal => i64::from(equal(left, right)),
+        Term::Less => i64::from(less(left, right)),
+        Term::True | Term::Not | Term::Constant(_) | Term::Secret(_) => return None,
+    })
 }
 
-impl Waiting {
-    #[inline(always)]
-    fn push(&mut self, value: i64) {
-        self.before[self.count] = self.last;
-        self.count += 1;
-        self.last = value;
-    }
-
-    /// Puts one value in the place of the last two, of which the one found last comes first in the text.
-    #[inline(always)]
-    fn join(&mut self, value: impl FnOnce(i64, i64) -> i64) {
-        self.count -= 1;
-        self.last = value(self.last, self.before[self.count]);
-    }
+/// What the last of these terms makes of two values, if it asks for two, and the terms before it.
+#[inline(always)]
+fn joined_before(terms: &[Term], left: i64, right: i64) -> Option<(i64, &[Term])> {
+    let (term, before) = terms.split_last()?;
+    Some((joined(*term, left, right)?, before))
 }
 
 impl Condition<'_> {
@@ -1911,31 +1983,40 @@ impl Condition<'_> {
 
     /// Is it true?  None if it names a secret that has no value, also in a part that can't matter.
     ///
-    /// From the last term to the first, so that the values that a term asks for are found before it.
+    /// From the last term to the first, so that the values that a term asks for are found before it: the
+    /// first of two comes last.
     #[inline]
     pub fn holds(self, secret: impl Fn(usize) -> Option<i64>) -> Option<bool> {
-        let mut values = Waiting {
-            last: 0,
-            before: [0; CONDITION_FIELDS / 2 + 1],
-            count: 0,
-        };
-        for term in self.0.iter().rev() {
-            match *term {
-                Term::Constant(number) => values.push(i64::from(number)),
-                Term::Secret(number) => values.push(secret(usize::from(number))?),
-                Term::Add => values.join(sum),
-                Term::Subtract => values.join(difference),
-                Term::True => values.push(i64::from(rule!(true; TrueIsFalse: false))),
-                Term::And => values.join(|left, right| i64::from(both(left == 1, right == 1))),
+        let mut terms = self.0;
+        // The value that was found last, and those before it that nothing has asked for yet.
+        let (mut last, mut waiting, mut count) = (0, [0; CONDITION_FIELDS / 2 + 1], 0);
+        while let [before @ .., term] = terms {
+            terms = before;
+            let value = match *term {
+                Term::Constant(number) => i64::from(number),
+                Term::Secret(number) => secret(usize::from(number))?,
+                Term::True => i64::from(rule!(true; TrueIsFalse: false)),
                 Term::Not => {
-                    let part = values.last == 1;
-                    values.last = i64::from(rule!(!part; NotIsNothing: part));
+                    let part = last == 1;
+                    last = i64::from(rule!(!part; NotIsNothing: part));
+                    continue;
                 }
-                Term::Equal => values.join(|left, right| i64::from(equal(left, right))),
-                Term::Less => values.join(|left, right| i64::from(less(left, right))),
+                term => {
+                    count -= 1;
+                    last = joined(term, last, waiting[count])?;
+                    continue;
+                }
+            };
+            // Most often the term before asks for this value and then for the one before it.
+            if let Some((value, before)) = joined_before(terms, value, last) {
+                (last, terms) = (value, before);
+                continue;
             }
+            waiting[count] = last;
+            count += 1;
+            last = value;
         }
-        Some(values.last == 1)
+        Some(last == 1)
     }
 
     /// Does it count as `t` where a branch may be own: does it name no secret, and is it true?

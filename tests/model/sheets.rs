@@ -112,11 +112,12 @@ fn sheet_alone(text: &[u8], cell_count: usize) -> Result<Sheet, Refusal> {
         return Err(nowhere(7));
     }
     let mut reader = Reader::new(text);
-    reader.sheet()?;
+    let read = reader.sheet();
+    read.map_err(|number| reader.refusal(number))?;
     if rule!(false; ShortTableAfter: short) {
         return Err(nowhere(7));
     }
-    let behind = text.len() - reader.position;
+    let behind = reader.rest().len();
     if rule!(behind > 0; BehindNotRead: false, EmptyLineBehind: behind > 1) {
         // A line too many, whatever stands in it.
         reader.begin_line();

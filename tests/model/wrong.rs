@@ -1011,11 +1011,9 @@ pub fn parts_first(sheet: &Sheet, node: usize) -> usize {
 }
 
 /// A field without its quotes.
-pub fn unquoted(text: &[u8]) -> &[u8] {
-    let inner = text
-        .strip_prefix(b"\"")
-        .and_then(|text| text.strip_suffix(b"\""));
-    inner.unwrap_or(text)
+pub fn unquoted(text: &[u8]) -> Option<&[u8]> {
+    let behind = text.strip_prefix(b"\"")?;
+    behind.strip_suffix(b"\"")
 }
 
 /// The row of a node that has nothing left.

@@ -543,12 +543,13 @@ impl<'a> Field<'a> {
 
 impl<'a> Reader<'a> {
     fn new(request: &'a [u8]) -> Self {
-        // No list grows while it is filled: so many bytes at least go with each of its items.
-        let sheet_bytes = request.len().min(SHEET_BYTES);
+        // Lists with room by the length of the request hardly grow while they are filled.
+        let room = request.len() / 8;
         let sheet = Sheet {
-            nodes: Vec::with_capacity((sheet_bytes / 4).min(NODES)),
-            branches: Vec::with_capacity((sheet_bytes / 6).min(BRANCHES + BRANCHES / 2)),
-            terms: Vec::with_capacity(sheet_bytes / 3),
+            nodes: Vec::with_capacity(room.min(NODES)),
+            branches: Vec::with_capacity(room.min(BRANCHES)),
+            parts: Vec::with_capacity(room.min(NODES)),
+            terms: Vec::with_capacity(room.min(2 * BRANCHES)),
             ..Sheet::default()
         };
         Reader {
@@ -2283,7 +2284,7 @@ impl Ledger {
             UntoldServeAnyway: condition.counts() || secrets.iter().all(told),
             OldSetsServe: secrets.iter().all(|secret| wrong::told_anywhere(&self.sets, *secret)));
         // A condition names only listed secrets, and only a number can be told.
-        let value = |secret: usize| match set.values[secret] {
+        let value = |secret: usize| match set.values.items[secret] {
             Value::Number(number) => Some(number as i64),
             Value::IllFormed => rule!(unreachable!("an ill-formed commitment was told");
                 IllFormedTold: Some(0),
@@ -2471,11 +2472,12 @@ impl Text<'_> {
         self.length = end;
     }
 
+    /// A number behind a comma.
     #[inline(always)]
-    fn put_number(&mut self, mut number: u64) {
-        let digits = number.checked_ilog10().unwrap_or(0) as usize + 1;
-        let end = self.length + digits;
-        if let Some(places) = self.buffer.get_mut(self.length..end) {
+    fn put_field(&mut self, mut number: u64) {
+        let end = self.length + 1 + digits_of(number);
+        if let Some([comma, places @ ..]) = self.buffer.get_mut(self.length..end) {
+            *comma = b',';
             for place in places.iter_mut().rev() {
                 *place = b'0' + (number % 10) as u8;
                 number /= 10;
@@ -2493,12 +2495,17 @@ impl Text<'_> {
         }
         self.put(b"\n");
     }
+}
 
-    /// A number behind a comma.
-    #[inline(always)]
-    fn put_field(&mut self, number: u64) {
-        self.put(b",");
-        self.put_number(number);
+/// How many digits a number has; most have few.
+#[inline(always)]
+fn digits_of(number: u64) -> usize {
+    match number {
+        0..=9 => 1,
+        10..=99 => 2,
+        100..=999 => 3,
+        1_000..=9_999 => 4,
+        _ => number.ilog10() as usize + 1,
     }
 }
 

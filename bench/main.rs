@@ -479,6 +479,24 @@ fn made_rows(make: &str) -> String {
     rows.to_string()
 }
 
+/// Plays, and the places for rows that are lent for them.
+fn plays() -> Vec<(&'static str, usize, String)> {
+    let few = library::ROWS;
+    vec![
+        ("mixed events", few, mixed_events()),
+        (
+            "9,350 waits",
+            few,
+            format!("{}play\n{}", cases::N, "wait,1\n".repeat(9_350)),
+        ),
+        ("sixteen signers", few, sixteen_signers()),
+        ("events refused by 14", few, nothing_there()),
+        ("256 contracts", few, most_contracts()),
+        ("conditions of 64 fields", few, long_conditions()),
+        ("one condition of them", few, long_condition()),
+    ]
+}
+
 /// Requests, and the places for rows that are lent for them.
 fn requests() -> Vec<(String, usize, String)> {
     let sheet = largest_sheet();
@@ -520,21 +538,10 @@ fn requests() -> Vec<(String, usize, String)> {
             few,
             format!("{sheet}check,0\n{}", last_too_late(&rows)),
         ),
-        ("mixed events", few, mixed_events()),
-        (
-            "9,350 waits",
-            few,
-            format!("{}play\n{}", cases::N, "wait,1\n".repeat(9_350)),
-        ),
-        ("sixteen signers", few, sixteen_signers()),
-        ("events refused by 14", few, nothing_there()),
-        ("256 contracts", few, most_contracts()),
-        ("conditions of 64 fields", few, long_conditions()),
-        ("one condition of them", few, long_condition()),
     ];
     let named =
         |(name, places, request): (&str, usize, String)| (name.to_string(), places, request);
-    let requests = requests.into_iter().map(named);
+    let requests = requests.into_iter().chain(plays()).map(named);
     let requests = requests.chain(requests_of_why());
     requests.chain(requests_of_conditions()).collect()
 }

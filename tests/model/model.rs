@@ -2246,19 +2246,24 @@ impl Ledger {
         let wrong_count = rule!(given != secrets;
             FewerValuesTaken: given > secrets,
             MoreValuesTaken: given < secrets);
-        let made = rule!(self.contracts.len(); LiveCounted: self.live_contracts() - 1);
-        let made = made + rule!(1; RenewalsMakeNone: 0);
-        let sets = rule!(self.sets.len(); EmptySetsNotCounted: wrong::filled(&self.sets));
-        let deposits = || sheet.deposits(definition).iter().sum::<u64>();
-        let taken = rule!(self.deposits_taken; HeldCounted: wrong::held(&self.contracts));
         lowest!(
             14: !renewed.is_renewal(),
             15: early,
             16: unsigned,
             18: wrong_count,
-            19: made > limit!(ContractsMade, CONTRACTS_MADE),
-            19: sets + 1 > limit!(SetsMade, SETS_MADE),
-            19: taken + deposits() > limit!(DepositsTaken, SATOSHI))
+            19: !self.has_room_for(sheet.deposits(definition)))
+    }
+
+    /// May a renewal with these deposits make one more contract and one more set?
+    fn has_room_for(&self, deposits: &[u64]) -> bool {
+        let made = rule!(self.contracts.len(); LiveCounted: self.live_contracts() - 1);
+        let made = made + rule!(1; RenewalsMakeNone: 0);
+        let sets = rule!(self.sets.len(); EmptySetsNotCounted: wrong::filled(&self.sets));
+        let taken = rule!(self.deposits_taken; HeldCounted: wrong::held(&self.contracts));
+        let taken = taken + deposits.iter().sum::<u64>();
+        made <= limit!(ContractsMade, CONTRACTS_MADE)
+            && sets < limit!(SetsMade, SETS_MADE)
+            && taken <= limit!(DepositsTaken, SATOSHI)
     }
 
     /// For `r`: are all listed secrets told and the condition true, in the contract's own set?

@@ -439,36 +439,46 @@ impl Walk<'_> {
             must(rule!(count == 0; UnusedCount: true))?;
             must(rule!(condition_at == 0; UnusedCondition: true))?;
         }
-        let action = match kind {
-            0 => {
-                must(argument < limit!(PaidTo, self.sheet.participants))?;
-                Action::Withdraw { to: argument }
-            }
-            1 => self.split(place, argument, depth)?,
-            2 => {
-                must(rule!(first == self.listed; SecretsAnywhere: true))?;
-                must(rule!(condition_at == self.conditions; ConditionsAnywhere: true))?;
-                let (secrets, condition) = self.reveal(count)?;
-                must(rule!(argument == self.sheet.nodes.len(); RevealedNotAsked: true))?;
-                let next = self.contract(place, 0, depth + 1)?.node;
-                Action::Reveal {
-                    secrets,
-                    condition,
-                    next,
-                }
-            }
-            3 => {
-                must(argument < limit!(RenewedAs, self.cells[1]))?;
-                Action::Renew {
-                    definition: argument,
-                }
-            }
-            _ => return None,
-        };
+        if kind == 2 {
+            must(rule!(first == self.listed; SecretsAnywhere: true))?;
+            must(rule!(condition_at == self.conditions; ConditionsAnywhere: true))?;
+        }
         Some(Branch {
             signers: signers as u32,
             opens: opens as u64,
-            action,
+            action: match kind {
+                0 => self.withdraw(argument)?,
+                1 => self.split(place, argument, depth)?,
+                2 => self.reveal(place, argument, count, depth)?,
+                3 => self.renew(argument)?,
+                _ => return None,
+            },
+        })
+    }
+
+    fn withdraw(&self, to: usize) -> Option<Action> {
+        must(to < limit!(PaidTo, self.sheet.participants))?;
+        Some(Action::Withdraw { to })
+    }
+
+    fn renew(&self, definition: usize) -> Option<Action> {
+        must(definition < limit!(RenewedAs, self.cells[1]))?;
+        Some(Action::Renew { definition })
+    }
+
+    /// An `r` with so many secrets whose contract is the node `next`.
+    fn reveal(&mut self, place: usize, next: usize, count: usize, depth: usize) -> Option<Action> {
+        let secrets = self.secrets(count)?;
+        let first = self.sheet.terms.len();
+        let end = self.conditions + limit!(FieldsAtCondition, CONDITION_FIELDS);
+        self.condition(&secrets, end)?;
+        let condition = Span::new(first, self.sheet.terms.len() - first);
+        must(rule!(next == self.sheet.nodes.len(); RevealedNotAsked: true))?;
+        let next = self.contract(place, 0, depth + 1)?.node;
+        Some(Action::Reveal {
+            secrets,
+            condition,
+            next,
         })
     }
 
@@ -487,8 +497,8 @@ impl Walk<'_> {
         Some(Action::Split { parts })
     }
 
-    /// The secrets of an `r` and its condition.
-    fn reveal(&mut self, count: usize) -> Option<(Few<u8>, Span)> {
+    /// The secrets that an `r` lists.
+    fn secrets(&mut self, count: usize) -> Option<Few<u8>> {
         let owned = self.sheet.definitions.last()?.owners.len();
         within(count, limit!(LeastListed, 1), limit!(Listed, SECRETS))?;
         let mut secrets = Few::default();
@@ -498,11 +508,7 @@ impl Walk<'_> {
             must(rule!(!secrets.contains(&(secret as u8)); TwiceAllowed: true))?;
             secrets.push(secret as u8);
         }
-        let first = self.sheet.terms.len();
-        let end = self.conditions + limit!(FieldsAtCondition, CONDITION_FIELDS);
-        self.condition(&secrets, end)?;
-        let condition = Span::new(first, self.sheet.terms.len() - first);
-        Some((secrets, condition))
+        Some(secrets)
     }
 
     /// The next cell of a condition that ends before `end`.

@@ -363,7 +363,7 @@ struct Reader<'a> {
     branches: usize,
 }
 
-/// The words of a branch, of a condition, of an expression, of a last part and of an event.
+/// The kind of a branch.
 #[derive(Clone, Copy)]
 enum Kind {
     Withdraw,
@@ -372,6 +372,7 @@ enum Kind {
     Renew,
 }
 
+/// What the last part asks for.
 #[derive(Clone, Copy)]
 enum Asked {
     Make,
@@ -381,6 +382,7 @@ enum Asked {
     Play,
 }
 
+/// What an event does.
 #[derive(Clone, Copy)]
 enum Done {
     Wait,
@@ -389,6 +391,8 @@ enum Done {
     Fire,
     Renew,
 }
+
+// What the words that may be due mean.
 
 fn kind_of(text: &[u8]) -> Option<Kind> {
     Some(match text {

@@ -2,8 +2,10 @@
 //!
 //! ```text
 //! bash bench/run
+//! target/bench/bench only library 3 'mixed events'
 //! ```
 //!
+//! The second has one side answer one request so many times, for whoever counts what it executes.
 //! Both sides have the same duty: from the bytes of a request to a reply, with every byte of the same
 //! two buffers written, zeros past the answer; from a text to a table, with every cell written; from a
 //! table to its text.  The runs of the two alternate, so that a busy machine hits both alike, and the
@@ -35,8 +37,8 @@ const RUNS: usize = 31;
 
 /// Reading is most of it, and both sides read field by field, once.
 const SHEETS: f64 = 1.6;
-/// Events are read and printed in the same way; but a step of the library takes its whole ledger and hands it
-/// back.
+/// Events are read and printed in the same way; but the library keeps no list of them, and reads each again
+/// when it is played.
 const PLAYS: f64 = 3.0;
 /// Hardly anything but values of conditions, which the library keeps on a slate and the model in registers.
 const CONDITIONS: f64 = 8.0;
@@ -952,8 +954,29 @@ fn report_stack() -> std::io::Result<()> {
     Ok(())
 }
 
+/// One side alone answers a request so many times.
+fn only(side: &str, count: usize, name: &str) -> bool {
+    let Some((_, places, request)) = requests().into_iter().find(|row| row.0 == name) else {
+        return false;
+    };
+    let request = request.as_bytes();
+    let (mut ours, mut theirs) = (Buffers::new(places), Buffers::new(places));
+    for _ in 0..count {
+        let request = black_box(request);
+        black_box(match side {
+            "library" => ours.by_library(request),
+            _ => theirs.by_model(request),
+        });
+    }
+    true
+}
+
 fn main() -> ExitCode {
     let arguments: Vec<String> = std::env::args().skip(1).collect();
+    if let [_, side, count, name] = arguments.as_slice() {
+        let ran = count.parse().is_ok_and(|count| only(side, count, name));
+        return ExitCode::from(u8::from(!ran));
+    }
     if let [word, kib] = arguments.as_slice() {
         let enough = word == "stack" && kib.parse().is_ok_and(on_stack);
         return ExitCode::from(u8::from(!enough));

@@ -165,50 +165,42 @@ fn both_expressions(
     expression(s, e, depth, limit, from, t)
 }
 
-// A condition, with so many words left to nest.
+// A condition, with so many words left to nest: of the two of an `and`, the first is read by itself, and the second is the next that is due.
 pub fn condition(s: &[u8], st: St, depth: usize, limit: usize, from: usize, t: &mut [usize]) -> Read
     requires { ⌜ Spacious (now s) (now t) ⌝ }
     requires { ⌜ HasRoom (now s) st ⌝ }
     ensures { λ r. ⌜ Met (Kept (now (s .entry)) limit st) (conditionAt (now (s .entry)) limit from depth (stateOf st (now (t .entry)))) r (now (t .exit)) ⌝ }
 {
-    let g = letters(s, st);
-    let Read::Value(w, e) = g else {
-        return g;
-    };
-    let c = condition_cell(w);
-    if c == NONE {
-        return Read::Bad(3, st.at);
+    let mut cur = st;
+    let mut left = depth;
+    loop {
+        let g = letters(s, cur);
+        let Read::Value(w, e) = g else {
+            return g;
+        };
+        let c = condition_cell(w);
+        if c == NONE {
+            return Read::Bad(3, cur.at);
+        }
+        if left == 0 {
+            return Read::Bad(7, cur.at);
+        }
+        let h = store(e, cur.at, limit, c, t);
+        let Read::Value(_, f) = h else {
+            return h;
+        };
+        match c {
+            Sheet::T => return Read::Value(0, f),
+            Sheet::NOT => return condition(s, f, left - 1, limit, from, t),
+            Sheet::AND => {
+                left -= 1;
+                let i = condition(s, f, left, limit, from, t);
+                let Read::Value(_, q) = i else {
+                    return i;
+                };
+                cur = q;
+            }
+            _ => return both_expressions(s, f, left - 1, limit, from, t),
+        }
     }
-    if depth == 0 {
-        return Read::Bad(7, st.at);
-    }
-    let h = store(e, st.at, limit, c, t);
-    let Read::Value(_, f) = h else {
-        return h;
-    };
-    match c {
-        Sheet::T => Read::Value(0, f),
-        Sheet::AND => both_conditions(s, f, depth - 1, limit, from, t),
-        Sheet::NOT => condition(s, f, depth - 1, limit, from, t),
-        _ => both_expressions(s, f, depth - 1, limit, from, t),
-    }
-}
-
-fn both_conditions(
-    s: &[u8],
-    st: St,
-    depth: usize,
-    limit: usize,
-    from: usize,
-    t: &mut [usize],
-) -> Read
-    requires { ⌜ Spacious (now s) (now t) ⌝ }
-    requires { ⌜ HasRoom (now s) st ⌝ }
-    ensures { λ r. ⌜ Met (Kept (now (s .entry)) limit st) (twice (conditionAt (now (s .entry)) limit from depth) (stateOf st (now (t .entry)))) r (now (t .exit)) ⌝ }
-{
-    let g = condition(s, st, depth, limit, from, t);
-    let Read::Value(_, e) = g else {
-        return g;
-    };
-    condition(s, e, depth, limit, from, t)
 }

@@ -1,7 +1,8 @@
 // A contract and its branches, read into the table that the caller lends.
 use conditions::condition;
+use fields::word;
 use steps::Read;
-use steps::letters;
+use steps::move_on;
 use steps::num;
 use tables::Action;
 use tables::Head;
@@ -11,9 +12,7 @@ use tables::is_listed;
 use tables::put_branch;
 use tables::put_listed;
 use tables::put_node;
-ghost use mathlib.Core.Path.{_≡_};
 ghost use Prim.Native.Nat.{_+_, _≤_, _<_};
-ghost use lib.ListN.{length};
 ghost use Rattle.tables.specs.State.{stateOf};
 ghost use Rattle.steps.specs.Steps.{Met, times};
 ghost use Rattle.conditions.specs.Condition.{HasRoom};
@@ -123,7 +122,8 @@ pub fn contract(
     requires { ⌜ Few (now s) lim st ⌝ }
     ensures { λ r. ⌜ Met (Few (now (s .entry)) lim) (readContract (now (s .entry)) lim depth parent weight (stateOf st (now (t .entry)))) r (now (t .exit)) ⌝ }
 {
-    let g = letters(s, st);
+    let a = word(s, st.at);
+    let g = move_on(st, a);
     let Read::Value(w, e) = g else {
         return g;
     };
@@ -174,7 +174,8 @@ fn branch(s: &[u8], st: St, depth: usize, node: usize, lim: Limits, t: &mut [usi
     let Read::Value(opens, f) = h else {
         return h;
     };
-    let i = letters(s, f);
+    let a = word(s, f.at);
+    let i = move_on(f, a);
     let Read::Value(w, l) = i else {
         return i;
     };

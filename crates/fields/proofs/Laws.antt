@@ -1,18 +1,16 @@
 -- Laws of the definitions: what one byte more does.
-use Prim.Native.Nat.{ℕ, zero, suc, _+_, _-_, _*_, _<_, _≤_, _^_}
+use Prim.Native.Nat.{ℕ, suc, _+_, _-_, _*_, _<_, _≤_, _^_}
 use mathlib.Core.Path.{_≡_, refl, ap, sym, _∙_}
 use mathlib.Core.List.{List, [], _∷_}
-use mathlib.Core.Bool.{Bool, true, false, cond, _&&_, _||_}
-use native.Mathlib.Nat.{pow-suc, pow-le-pow-right, lt-of-lt-of-le, add-sub-cancel-left}
+use mathlib.Core.Bool.{Bool, true, false, cond, _&&_}
+use native.Mathlib.Nat.{pow-suc, pow-le-pow-right, lt-of-lt-of-le}
 use native.Mathlib.Numerals.{add-one}
 use native.Mathlib.Omega.{arith}
 use lib.ListN.{length, getD, take, drop, drop-of-length-le, length-drop, length-take}
 use lib.Seq.{drop-cons}
 use lib.Dec.{ltb, leb, eqb, lit<}
-use borrow.Author.Tests.{eq-eqb, ne-eqb, le-leb, lt-leb, lt-ltb, leb-true, ltb-true, eqb-true}
-use Rattle.fields.specs.Field.{comma, lf, zeroDigit, nineDigit, isSep, fieldLen, allDigits, digitsOn, numberOf, numberAt, afterComma, upTo, textAt, endAt, packed, packedOf, wordFrom, wordAt}
-use Rattle.fields.specs.declared.Num.{Num}
-use Rattle.fields.specs.declared.Num.the-variants.{Is, Not}
+use borrow.Author.Tests.{eq-eqb, ne-eqb, lt-ltb, leb-true, ltb-true, eqb-true}
+use Rattle.fields.specs.Field.{comma, lf, isSep, fieldLen, numberOf, numberAt, afterComma, upTo, textAt, endAt, packed, packedOf, wordFrom, wordAt, Num, Is, Not}
 use Rattle.fields.specs.declared.Got.{Got}
 use Rattle.fields.specs.declared.Got.the-variants.{Value, Bad}
 
@@ -32,30 +30,6 @@ module _ (s : List ℕ) (i : ℕ) where
   pub fieldLen-more : i < length s → (getD s i 0 ≡ comma → ⊥) → (getD s i 0 ≡ lf → ⊥) → fieldLen (drop i s) ≡ suc (fieldLen (drop (i + 1) s))
   unfolding fieldLen
   fieldLen-more h e f = rw (add-one, drop-cons s i 0, ne-eqb _ _ e, ne-eqb _ _ f)
-
-  pub digits-end : length s ≤ i → allDigits (drop i s) ≡ true
-  unfolding allDigits
-  digits-end h = rw drop-of-length-le
-
-  pub digits-below : i < length s → getD s i 0 < zeroDigit → allDigits (drop i s) ≡ false
-  unfolding allDigits
-  digits-below h e = rw (drop-cons s i 0, lt-leb _ _ e)
-
-  pub digits-above : i < length s → zeroDigit ≤ getD s i 0 → nineDigit < getD s i 0 → allDigits (drop i s) ≡ false
-  unfolding allDigits
-  digits-above h f e = rw (drop-cons s i 0, le-leb _ _ f, lt-leb _ _ e)
-
-  pub digits-more : i < length s → zeroDigit ≤ getD s i 0 → getD s i 0 ≤ nineDigit → allDigits (drop i s) ≡ allDigits (drop (i + 1) s)
-  unfolding allDigits
-  digits-more h f e = rw (add-one, drop-cons s i 0, le-leb _ _ f, le-leb _ _ e)
-
-  pub digits-on-end : (v : ℕ) → length s ≤ i → digitsOn v (drop i s) ≡ v
-  unfolding digitsOn
-  digits-on-end v h = rw drop-of-length-le
-
-  pub digits-on-more : (v : ℕ) → i < length s → digitsOn v (drop i s) ≡ digitsOn (v * 10 + (getD s i 0 - zeroDigit)) (drop (i + 1) s)
-  unfolding digitsOn
-  digits-on-more v h = rw (add-one, drop-cons s i 0)
 
 pub packed-end : (s : List ℕ) (i v : ℕ) → length s ≤ i → packed v (drop i s) ≡ v
 unfolding packed
@@ -106,10 +80,9 @@ one-letter s p h c n m =
     rw (e, drop-cons s p 0, one-byte (getD s p 0) (drop (suc p) s))
 
 -- what is left to say of a number after its comma
-pub numberAt-go : (s : List ℕ) (at max e : ℕ) (n : Num) → at < length s → getD s at 0 ≡ comma → e ≡ at + 1 + fieldLen (drop (at + 1) s)
-    → n ≡ numberOf (take (e - (at + 1)) (drop (at + 1) s)) → numberAt s at max ≡ upTo max at e n
-unfolding numberAt endAt textAt
-numberAt-go s at max e n lt eq he hn = rw (lt-ltb _ _ lt, eq-eqb _ _ eq, hn, he, add-sub-cancel-left)
+pub number-by : (s : List ℕ) (at max : ℕ) {n : Num} → at < length s → getD s at 0 ≡ comma → numberOf (textAt s (at + 1)) ≡ n → numberAt s at max ≡ upTo max at (endAt s (at + 1)) n
+unfolding numberAt
+number-by s at max lt eq e = rw (lt-ltb _ _ lt, eq-eqb _ _ eq, e)
 
 -- ---- what a field that was read has: a comma before it, an end within the request
 

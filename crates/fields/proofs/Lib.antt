@@ -1,3 +1,4 @@
 pub mod Laws
+pub mod Runs
 pub mod Ranges
 pub mod Words

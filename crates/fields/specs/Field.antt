@@ -1,13 +1,11 @@
 -- Fields of a request, as document 01 has them. A position is an index of the request's bytes.
-use Prim.Native.Nat.{ℕ, zero, suc, _+_, _-_, _*_}
+use Prim.Native.Nat.{ℕ, suc, _+_, _-_, _*_}
 use Prim.Native.Char.{code}
 use Prim.Native.String.{String, [] as ended, _∷_ as _then_}
 use mathlib.Core.List.{List, [], _∷_}
-use mathlib.Core.Bool.{Bool, true, false, cond, not, _&&_, _||_}
+use mathlib.Core.Bool.{Bool, true, cond, _&&_, _||_}
 use lib.ListN.{length, getD, take, drop}
 use lib.Dec.{ltb, leb, eqb}
-use Rattle.fields.specs.declared.Num.{Num}
-use Rattle.fields.specs.declared.Num.the-variants.{Is, Not}
 use Rattle.fields.specs.declared.Got.{Got}
 use Rattle.fields.specs.declared.Got.the-variants.{Value, Bad}
 
@@ -59,6 +57,11 @@ allDigits (b ∷ r) = isDigit b && allDigits r
 unfoldable pub digitsOn : ℕ → List ℕ → ℕ
 digitsOn v [] = v
 digitsOn v (b ∷ r) = digitsOn (v * 10 + (b - zeroDigit)) r
+
+-- a number, or text that is none
+pub data Num : Type 0 where
+  Is : ℕ → Num
+  Not : Num
 
 unfoldable pub digitsOf : List ℕ → Num
 digitsOf t = cond (allDigits t) (Is (digitsOn 0 t)) Not

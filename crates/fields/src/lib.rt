@@ -1,8 +1,9 @@
 // A request's fields: a field's end, a number, a word, a line's end. A position is an index of the request.
 ghost use mathlib.Core.Path.{_≡_};
-ghost use Prim.Native.Nat.{_+_, _≤_};
+ghost use Prim.Native.Nat.{_+_, _≤_, _<_};
 ghost use lib.ListN.{length, drop};
-ghost use Rattle.fields.specs.Field.{fieldLen, numberOf, digitsOf, packed, packedOf, numberAt, belowAt, betweenAt, wordFrom, wordAt, firstAt, lineEndAt};
+ghost use Rattle.fields.specs.Run.{runAt, endsAt};
+ghost use Rattle.fields.specs.Field.{fieldLen, packed, packedOf, numberAt, belowAt, betweenAt, wordFrom, wordAt, firstAt, lineEndAt};
 
 const COMMA: u8 = b',';
 
@@ -16,10 +17,10 @@ const LETTERS: usize = 7;
 // The largest number of so many digits.
 const ANY: usize = 9999999999999999999;
 
-// A number, or text that is none.
-pub enum Num {
-    Is(usize),
-    Not,
+// What digits spell, and the position behind them.
+pub struct Run {
+    pub value: usize,
+    pub end: usize,
 }
 
 // A value and the position after its field; or a refusal's number and the position before its field.
@@ -47,49 +48,56 @@ pub fn field_end(s: &[u8], at: usize) -> usize
     i
 }
 
-// The value of up to 19 digits; a text with another byte is no number.
-fn digits(text: &[u8]) -> Num
-    requires { ⌜ length (now text) ≤ 19 ⌝ }
-    ensures { λ r. ⌜ r ≡ digitsOf (now (text .entry)) ⌝ }
-{
-    let mut v: usize = 0;
-    let mut i = 0;
-    while i < text.len() {
-        let b = text[i];
-        match b {
-            b'0'..=b'9' => {
-                v = v * 10 + wide(b - b'0');
-                i += 1;
-            }
-            _ => return Num::Not,
-        }
-    }
-    Num::Is(v)
-}
-
 fn wide(b: u8) -> usize
     ensures { λ r. ⌜ r ≡ b ⌝ }
 {
     b as usize
 }
 
-// The number that a text spells.
-pub fn number_of(text: &[u8]) -> Num
-    ensures { λ r. ⌜ r ≡ numberOf (now (text .entry)) ⌝ }
+// Where the digits of a number that starts at `from` end at the latest.
+fn latest(from: usize, end: usize) -> usize
+    requires { ⌜ from ≤ end ⌝ }
+    ensures { λ r. ⌜ (from ≤ r) × (r ≤ end) × (r ≤ from + 19) × (r < from + 19 → r ≡ end) ⌝ }
 {
-    if text.len() == 0 {
-        return Num::Not;
+    if DIGITS < end - from {
+        return from + DIGITS;
     }
-    if DIGITS < text.len() {
-        return Num::Not;
-    }
-    if text[0] == b'0' {
-        if text.len() == 1 {
-            return Num::Is(0);
+    end
+}
+
+// The digits that stand from `from` on, up to 19 of them.
+fn digits(s: &[u8], from: usize) -> Run
+    requires { ⌜ from ≤ length (now s) ⌝ }
+    ensures { λ r. ⌜ r ≡ runAt (now (s .entry)) from ⌝ }
+{
+    let stop = latest(from, s.len());
+    let mut v: usize = 0;
+    let mut i = from;
+    while i < stop {
+        let b = s[i];
+        match b {
+            b'0'..=b'9' => {
+                v = v * 10 + wide(b - b'0');
+                i += 1;
+            }
+            _ => return Run { value: v, end: i },
         }
-        return Num::Not;
     }
-    digits(text)
+    Run { value: v, end: i }
+}
+
+// Whether a field ends at `at`: a comma or an LF stands there, or nothing.
+fn ends(s: &[u8], at: usize) -> bool
+    ensures { λ r. ⌜ r ≡ endsAt (now (s .entry)) at ⌝ }
+{
+    if s.len() <= at {
+        return true;
+    }
+    let b = s[at];
+    if b == COMMA {
+        return true;
+    }
+    b == LF
 }
 
 // The field after a comma at `at`, as a number up to max.
@@ -103,18 +111,22 @@ pub fn number(s: &[u8], at: usize, max: usize) -> Got
         return Got::Bad(2, at);
     }
     let from = at + 1;
-    let end = field_end(s, from);
-    let n = number_of(&s[from..end]);
-    match n {
-        Num::Is(v) => {
-            if v <= max {
-                Got::Value(v, end)
-            } else {
-                Got::Bad(4, at)
-            }
-        }
-        Num::Not => Got::Bad(3, at),
+    let g = digits(s, from);
+    if g.end == from {
+        return Got::Bad(3, at);
     }
+    if !ends(s, g.end) {
+        return Got::Bad(3, at);
+    }
+    if from + 1 < g.end {
+        if s[from] == b'0' {
+            return Got::Bad(3, at);
+        }
+    }
+    if g.value <= max {
+        return Got::Value(g.value, g.end);
+    }
+    Got::Bad(4, at)
 }
 
 // The field after a comma at `at`, as the number of one of n things.

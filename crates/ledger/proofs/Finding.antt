@@ -1,10 +1,10 @@
 -- Looking for a branch of a contract. Assumes nothing.
 use Prim.Native.Nat.{ℕ, _≤_, _<_}
 use mathlib.Core.Bool.{true, false, true≢false}
-use mathlib.Core.Path.{_≡_, refl, sym, _∙_, subst}
+use mathlib.Core.Path.{_≡_, refl, sym, _∙_}
 use mathlib.Core.List.{List}
 use native.Mathlib.Omega.{arith}
-use lib.ListN.{getD, length}
+use lib.ListN.{getD}
 use Rattle.tables.specs.Entries.{held}
 use Rattle.tables.specs.SheetOf.{branchCount, branchNumber}
 use Rattle.tables.proofs.SheetOf.{branch-small}

@@ -7,7 +7,6 @@ use mathlib.Core.Logic.{⊎-elim}
 use native.Mathlib.Omega.{arith}
 use lib.ListN.{getD, set, length, length-set}
 use lib.Seq.{getD-set-same, getD-set-other, ext-getD}
-use lib.Dec.{eqb}
 use borrow.Author.Tests.{ne-eqb}
 use Rattle.bitml.specs.Ledger.{Commitment, ill, commit}
 use Rattle.bitml.proofs.Lists.{at-set}
@@ -17,7 +16,7 @@ use Rattle.duties.specs.Duties.{committed, stateOf}
 use Rattle.pages.specs.Pages.{Pages, size, pagesIn, put, withSecret, nodes, balances, setNumbers, lives, definitions, counts, states, values, payments, signatures}
 use Rattle.pages.proofs.Laws.{page-long}
 use Rattle.ledger.specs.declared.Ledger.{Ledger}
-use Rattle.ledger.specs.Book.{Book, book}
+use Rattle.ledger.specs.Book.{book}
 use Rattle.ledger.specs.View.{commitmentOf}
 use Rattle.ledger.specs.Steps.{withSecrets, Stored, Stores}
 use Rattle.ledger.proofs.Looking.{same?}

@@ -4,6 +4,8 @@ use mathlib.Core.List.{List}
 use Rattle.pages.specs.Pages.{Pages, nodes, balances, setNumbers, lives, definitions, counts, states, values, payments, signatures}
 use Rattle.ledger.specs.declared.Ledger.{Ledger}
 
+-- "State: time, contracts .., commitment sets .., paid amounts", with the answer to the last event, how many contracts and sets were made, and
+-- the deposits taken
 pub record Book : Type 0 where
   pub answer : ℕ
   pub time : ℕ
@@ -21,6 +23,7 @@ pub record Book : Type 0 where
   pub state : List ℕ
   pub paid : List ℕ
 
+-- The program's ledger beside its pages
 abbrev pub book : Ledger → Pages → Book
 book l P =
     record {

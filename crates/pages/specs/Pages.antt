@@ -58,6 +58,7 @@ cellsLong = 5712
 abbrev pub Pages : Type 0
 Pages = ℕ → List ℕ
 
+-- as they stand in the cells
 unfoldable pub pagesIn : List ℕ → Pages
 pagesIn C s = firstOf (λ i. getD C (start s + i) 0) (size s)
 

@@ -4,7 +4,7 @@ ghost use mathlib.Core.Path.{_≡_};
 ghost use Prim.Native.Nat.{_+_, _*_, _≤_, _<_};
 ghost use lib.Dec.{eqb};
 ghost use lib.ListN.{length, getD};
-ghost use Rattle.pages.specs.Pages.{cellsLong, pagesIn, nodes, balances, setNumbers, lives, definitions, counts, states, values, payments, signatures, put, withContract, buried, withSet, withSecret};
+ghost use Rattle.pages.specs.Pages.{cellsLong, pagesIn, nodes, balances, setNumbers, lives, counts, states, payments, signatures, put, withContract, buried, withSet, withSecret};
 
 // The limits of the program's ledger.
 pub const CONTRACTS: usize = 256;

@@ -6,11 +6,9 @@ use mathlib.Core.List.{List}
 use lib.Dec.{ltb, leb, eqb}
 use lib.ListN.{length, getD}
 use borrow.Author.Tests.{leb-true}
-use Rattle.fields.specs.declared.Num.{Num}
-use Rattle.fields.specs.declared.Num.the-variants.{Is, Not}
 use Rattle.fields.specs.declared.Got.{Got}
 use Rattle.fields.specs.declared.Got.the-variants.{Value, Bad}
-use Rattle.fields.specs.Field.{comma, lf, afterComma, upTo, numberOf, textAt, endAt, numberAt, wordFrom, wordAt, firstAt, lineEndAt, whenRead, anyNumber, belowAt, betweenAt}
+use Rattle.fields.specs.Field.{comma, lf, afterComma, upTo, numberOf, textAt, endAt, numberAt, wordFrom, wordAt, firstAt, lineEndAt, whenRead, anyNumber, belowAt, betweenAt, Num, Is, Not}
 use Rattle.fields.proofs.Ranges.{cond-cases}
 use Rattle.tables.specs.State.{State}
 use Rattle.steps.specs.Steps.{Outcome, next, bad, toPlace, goOn, either, andThen, twice, times}

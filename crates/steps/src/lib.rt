@@ -16,7 +16,7 @@ pub enum Read {
 }
 
 // The state after a field.
-fn move_on(st: St, g: Got) -> Read
+pub fn move_on(st: St, g: Got) -> Read
     ensures { λ r. ⌜ r ≡ moved st g ⌝ }
 {
     match g {

@@ -10,9 +10,7 @@ use lib.ListN.{length, getD, take, drop}
 use lib.Seq.{drop-cons, drop-drop, take-add}
 use lib.Dec.{ltb, leb, eqb}
 use borrow.Author.Tests.{eqb-true, eqb-false, ltb-true, ltb-false, leb-true, lt-ltb, le-ltb}
-use Rattle.fields.specs.Field.{comma, zeroDigit, nineDigit, isDigit, allDigits, digitsOn, digitsOf, numberOf, fieldLen, textAt, endAt, afterComma, upTo, numberAt, packedOf, wordFrom, wordAt}
-use Rattle.fields.specs.declared.Num.{Num}
-use Rattle.fields.specs.declared.Num.the-variants.{Is, Not}
+use Rattle.fields.specs.Field.{comma, zeroDigit, nineDigit, isDigit, allDigits, digitsOn, digitsOf, numberOf, fieldLen, textAt, endAt, afterComma, upTo, numberAt, packedOf, wordFrom, wordAt, Num, Is, Not}
 use Rattle.fields.specs.declared.Got.{Got}
 use Rattle.fields.specs.declared.Got.the-variants.{Value, Bad}
 use Rattle.fields.proofs.Ranges.{cond-cases}

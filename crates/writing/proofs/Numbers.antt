@@ -8,10 +8,9 @@ use lib.ListN.{length, getD, drop, length-drop, length-append}
 use lib.Seq.{getD-drop, drop-drop, take-append-seam, drop-append-seam}
 use lib.Dec.{ltb}
 use borrow.Author.Tests.{ltb-true, ltb-false, lt-ltb, le-ltb, le-leb, eq-eqb, ne-eqb}
-use Rattle.fields.specs.Field.{comma, lf, zeroDigit, isSep, isDigit, allDigits, digitsOn, digitsOf, numberOf, fieldLen, textAt, endAt, numberAt, packedOf, wordFrom, firstAt, lineEndAt}
-use Rattle.fields.specs.declared.Num.the-variants.{Is}
+use Rattle.fields.specs.Field.{comma, lf, zeroDigit, isSep, isDigit, allDigits, digitsOn, digitsOf, numberOf, fieldLen, textAt, endAt, numberAt, packedOf, wordFrom, firstAt, lineEndAt, Is}
 use Rattle.fields.specs.declared.Got.the-variants.{Value}
-use Rattle.fields.proofs.Laws.{numberAt-go}
+use Rattle.fields.proofs.Laws.{number-by}
 use Rattle.fields.proofs.Ranges.{cond-cases}
 use Rattle.texts.specs.Text.{digits, decimal, field}
 use Rattle.texts.proofs.Lengths.{decimal-short}
@@ -112,16 +111,14 @@ module _ (s : List ℕ) (at : ℕ) where
   -- A printed number reads back where its field stands
   pub field-reads : (v max : ℕ) (rest : List ℕ) → drop at s ≡ field v ++ rest → fieldLen rest ≡ 0 → v ≤ max → v < 10 ^ 19
       → numberAt s at max ≡ Value v (at + length (field v))
-  unfolding field decimal
+  unfolding field decimal textAt endAt
   field-reads v max rest e f h l =
       let b = stands-byte comma (decimal v ++ rest) e in
       let d : drop (at + 1) s ≡ decimal v ++ rest = stands-on (comma ∷ []) (decimal v ++ rest) e in
       let n : fieldLen (decimal v ++ rest) ≡ length (decimal v) = digits-length (decimal v) rest (digits-all 20 v) f in
-      let k : at + length (field v) - (at + 1) ≡ length (decimal v) = omega arith in
-      numberAt-go s at max (at + length (field v)) (Is v) (b .0) (b .1)
-      (rw (d, n) (omega arith))
-      (rw (k, d, take-append-seam) (sym (number-reads v l)))
-      ∙ rw (le-leb v max h)
+      let t : textAt s (at + 1) ≡ decimal v = rw (d, n, take-append-seam) refl in
+      let k : endAt s (at + 1) ≡ at + length (field v) = rw (d, n) (omega arith) in
+      number-by s at max (b .0) (b .1) (ap numberOf t ∙ number-reads v l) ∙ rw (le-leb v max h, k)
 
   -- ---- a line
 

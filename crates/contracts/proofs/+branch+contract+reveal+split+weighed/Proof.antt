@@ -39,7 +39,8 @@ pub +branch+contract+reveal+split+weighed-spec : {M : Type 1} → statement M
     (branch-needs.enum-known-h t)
     (branch-needs.enum-told-2 t)
     (branch-needs.returns-4 t)
-    (branch-needs.letters-requires t)
+    (branch-needs.word-requires t)
+    (branch-needs.move-on-requires t)
     (branch-needs.enum-known-i t)
     (branch-needs.enum-told-3 t)
     (branch-needs.returns-5 t)
@@ -61,7 +62,8 @@ pub +branch+contract+reveal+split+weighed-spec : {M : Type 1} → statement M
     contract.Post
     contract-needs.Inv-loop
     contract-needs.μ-loop
-    (contract-needs.letters-requires t)
+    (contract-needs.word-requires t)
+    (contract-needs.move-on-requires t)
     (contract-needs.enum-known-g t)
     (contract-needs.enum-told t)
     (contract-needs.returns t)

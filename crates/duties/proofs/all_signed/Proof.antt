@@ -7,7 +7,6 @@ use Rattle.duties.specs.Duties.{covers}
 use Rattle.duties.proofs.Signing.{leftover, cover-all, cover-start, cover-bad, cover-good, cover-end}
 use Rattle.duties.proofs.all_signed.Statement.{statement}
 use Rattle.duties.proofs.all_signed.Tie as tie
-use Rattle.duties.proofs.signs.Reads as signs-reads
 
 abbrev Inv-loop : tie.InvT-loop
 Inv-loop people signers mask missing i₀ i = (i ≤ people) × (leftover people signers mask i ≡ covers people signers mask)

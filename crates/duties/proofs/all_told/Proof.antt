@@ -11,7 +11,6 @@ use Rattle.duties.specs.Duties.{toldAt}
 use Rattle.duties.proofs.Secrets.{told-past, told-not, told-yes}
 use Rattle.duties.proofs.all_told.Statement.{statement}
 use Rattle.duties.proofs.all_told.Tie as tie
-use Rattle.sheets.proofs.listed_at.Reads as listed-at-reads
 
 abbrev Inv-loop : tie.InvT-loop
 Inv-loop t state base known first count i₀ i = (i ≤ count) × (every (toldAt state base known) (map (listedAt (held t)) (upFrom (first + i) (count - i))) ≡ every (toldAt state base known) (map (listedAt (held t)) (upFrom first count)))

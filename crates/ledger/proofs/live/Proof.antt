@@ -10,7 +10,6 @@ use Rattle.ledger.specs.View.{liveOf}
 use Rattle.ledger.proofs.Ending.{lives, lives-all, lives-yes, lives-no}
 use Rattle.ledger.proofs.live.Statement.{statement}
 use Rattle.ledger.proofs.live.Tie as tie
-use Rattle.pages.proofs.is_alive.Reads as is-alive-reads
 
 abbrev Inv-loop : tie.InvT-loop
 Inv-loop cells made n₀ c₀ n c = (c ≤ made) × (n ≤ c) × (n + sumFrom (lives (pagesIn cells pages.lives)) c made ≡ liveOf (pagesIn cells pages.lives) made)

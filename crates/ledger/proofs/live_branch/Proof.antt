@@ -9,10 +9,6 @@ use Rattle.ledger.proofs.Finding.{finds-unknown, finds-dead, finds-none
 use borrow.Author.Needs.{needs}
 use Rattle.ledger.proofs.live_branch.Statement.{statement}
 use Rattle.ledger.proofs.live_branch.Tie as tie
-use Rattle.pages.proofs.is_alive.Reads as is-alive-reads
-use Rattle.pages.proofs.node_of.Reads as node-of-reads
-use Rattle.sheets.proofs.branch_count.Reads as branch-count-reads
-use Rattle.sheets.proofs.branch_of.Reads as branch-of-reads
 
 returns : tie.Need-returns
 returns c = finds-unknown (omega arith)

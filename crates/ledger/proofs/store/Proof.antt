@@ -1,6 +1,6 @@
 use borrow.Author.Needs.{needs}
 use native.Mathlib.Omega.{arith}
-use mathlib.Core.Path.{_≡_, refl, subst, _∙_}
+use mathlib.Core.Path.{_≡_, subst, _∙_}
 use Prim.Native.Nat.{_-_, _≤_}
 use lib.ListN.{length}
 use Rattle.pages.specs.Pages.{pagesIn}
@@ -8,9 +8,6 @@ use Rattle.ledger.specs.Steps.{Stores}
 use Rattle.ledger.proofs.Storing.{stores-none, stores-on}
 use Rattle.ledger.proofs.store.Statement.{statement}
 use Rattle.ledger.proofs.store.Tie as tie
-use Rattle.duties.proofs.number_of.Reads as number-of-reads
-use Rattle.duties.proofs.state_of.Reads as state-of-reads
-use Rattle.pages.proofs.put_secret.Reads as put-secret-reads
 
 abbrev Inv-loop : tie.InvT-loop
 Inv-loop i vs cells₀ j₀ cells j = (j ≤ length vs) × (length cells ≡ length cells₀) × Stores (pagesIn cells₀) i vs j (pagesIn cells)

@@ -2,9 +2,6 @@ use Rattle.plays.proofs.Stepping.{wrote-end-of}
 use borrow.Author.Needs.{needs}
 use Rattle.plays.proofs.end.Statement.{statement}
 use Rattle.plays.proofs.end.Tie as tie
-use Rattle.ledger.proofs.live.Reads as live-reads
-use Rattle.sheets.proofs.people.Reads as people-reads
-use Rattle.texts.proofs.put_end.Reads as put-end-reads
 
 people-requires : tie.Need-people-requires
 people-requires c κs = search needs

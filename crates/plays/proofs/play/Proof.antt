@@ -12,16 +12,6 @@ use Rattle.plays.proofs.Stepping.{Goes, Moved, wait-range, sign-range, 
 use borrow.Author.Needs.{needs}
 use Rattle.plays.proofs.play.Statement.{statement}
 use Rattle.plays.proofs.play.Tie as tie
-use Rattle.events.proofs.event_at.Reads as event-at-reads
-use Rattle.ledger.proofs.Ledger.fire.Reads as fire-reads
-use Rattle.ledger.proofs.Ledger.renew.Reads as renew-reads
-use Rattle.ledger.proofs.Ledger.sign.Reads as sign-reads
-use Rattle.ledger.proofs.Ledger.tell.Reads as tell-reads
-use Rattle.ledger.proofs.Ledger.wait.Reads as wait-reads
-use Rattle.plays.proofs.end.Reads as end-reads
-use Rattle.plays.proofs.values.Reads as values-reads
-use Rattle.sheets.proofs.people.Reads as people-reads
-use Rattle.texts.proofs.put_answer.Reads as put-answer-reads
 
 abbrev Inv-loop : tie.InvT-loop
 Inv-loop s from first t x text₀ cells₀ k now₀ at₀ line₀ e₀ text cells now at line e = (length cells ≡ length cells₀) × Goes s t from first text₀ (book now₀ (pagesIn cells₀)) text (book now (pagesIn cells)) at line e

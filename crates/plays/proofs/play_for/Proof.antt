@@ -1,6 +1,6 @@
 use Rattle.exits.proofs.Buffer.{cleared-long}
 use Prim.Native.Nat.{_+_}
-use mathlib.Core.Path.{_≡_, refl, sym, ap, _∙_}
+use mathlib.Core.Path.{refl, sym, ap, _∙_}
 use native.Mathlib.Omega.{arith}
 use lib.ListN.{length}
 use Rattle.bitml.specs.Ledger.{stipulated}
@@ -15,15 +15,6 @@ use Rattle.plays.proofs.Playing.{play-gives}
 use borrow.Author.Needs.{needs}
 use Rattle.plays.proofs.play_for.Statement.{statement}
 use Rattle.plays.proofs.play_for.Tie as tie
-use Rattle.exits.proofs.clear.Reads as clear-reads
-use Rattle.ledger.proofs.Ledger.new.Reads as new-reads
-use Rattle.plays.proofs.play.Reads as play-reads
-use Rattle.plays.proofs.values.Reads as values-reads
-use Rattle.replies.proofs.answered.Reads as answered-reads
-use Rattle.sheets.proofs.def_secrets.Reads as def-secrets-reads
-use Rattle.sheets.proofs.def_total.Reads as def-total-reads
-use Rattle.sheets.proofs.index.Reads as index-reads
-use Rattle.texts.proofs.clear.Reads as clear-reads′
 
 slice-aggregate-index : tie.Need-slice-aggregate-index
 slice-aggregate-index c = search needs

@@ -20,7 +20,8 @@ use Rattle.contracts.proofs.+branch+contract+reveal+split+weighed.Lts-w
 use Rattle.conditions.proofs.condition.Reads as condition-reads
 use Rattle.contracts.proofs.leaf.Reads as leaf-reads
 use Rattle.contracts.proofs.list_all.Reads as list-all-reads
-use Rattle.steps.proofs.letters.Reads as letters-reads
+use Rattle.fields.proofs.word.Reads as word-reads
+use Rattle.steps.proofs.move_on.Reads as move-on-reads
 use Rattle.steps.proofs.num.Reads as num-reads
 use Rattle.tables.proofs.put_branch.Reads as put-branch-reads
 use Rattle.tables.proofs.put_node.Reads as put-node-reads
@@ -72,10 +73,10 @@ abbrev pub weighed-below : ℕ → In 2 weighed-kinds.ps
 weighed-below t = and 2 weighed-kinds.ps (falls 2 weighed-kinds.ps _<_ μ-weighed t) weighed.Pre
 
 abbrev pub branch-callees : ℕ → branch-lts.Claims
-branch-callees t = (num-reads.Asked, num-reads.Learnt, letters-reads.Asked, letters-reads.Learnt, leaf-reads.Asked, leaf-reads.Learnt, split-below t, split.Post, reveal-below t, reveal.Post)
+branch-callees t = (num-reads.Asked, num-reads.Learnt, word-reads.Asked, word-reads.Learnt, move-on-reads.Asked, move-on-reads.Learnt, leaf-reads.Asked, leaf-reads.Learnt, split-below t, split.Post, reveal-below t, reveal.Post)
 
 abbrev pub contract-callees : ℕ → contract-lts.Claims
-contract-callees t = (letters-reads.Asked, letters-reads.Learnt, num-reads.Asked, num-reads.Learnt, put-node-reads.Asked, put-node-reads.Learnt, branch-below t, branch.Post)
+contract-callees t = (word-reads.Asked, word-reads.Learnt, move-on-reads.Asked, move-on-reads.Learnt, num-reads.Asked, num-reads.Learnt, put-node-reads.Asked, put-node-reads.Learnt, branch-below t, branch.Post)
 
 abbrev pub reveal-callees : ℕ → reveal-lts.Claims
 reveal-callees t = (num-reads.Asked, num-reads.Learnt, list-all-reads.Asked, list-all-reads.Learnt, condition-reads.Asked, condition-reads.Learnt, put-branch-reads.Asked, put-branch-reads.Learnt, contract-below t, contract.Post)

@@ -10,13 +10,6 @@ use Rattle.ledger.proofs.Firing.{fire-absent, fire-renewal, fire-late, 
 use borrow.Author.Needs.{needs}
 use Rattle.ledger.proofs.Ledger.fire.Statement.{statement}
 use Rattle.ledger.proofs.Ledger.fire.Tie as tie
-use Rattle.duties.proofs.held_back.Reads as held-back-reads
-use Rattle.ledger.proofs.Ledger.reveal.Reads as reveal-reads
-use Rattle.ledger.proofs.Ledger.split.Reads as split-reads
-use Rattle.ledger.proofs.Ledger.withdraw.Reads as withdraw-reads
-use Rattle.ledger.proofs.live_branch.Reads as live-branch-reads
-use Rattle.pages.proofs.signed_for.Reads as signed-for-reads
-use Rattle.sheets.proofs.branch_kind.Reads as branch-kind-reads
 
 live-branch-requires : tie.Need-live-branch-requires
 live-branch-requires c κs = search needs

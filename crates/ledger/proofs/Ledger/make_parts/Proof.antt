@@ -9,11 +9,6 @@ use Rattle.ledger.specs.Book.{book}
 use Rattle.ledger.proofs.Splitting.{Splits, splits-start, splits-on-by, splits-end-by, made-room, part-in, weight-some, parts-few, share-by}
 use Rattle.ledger.proofs.Ledger.make_parts.Statement.{statement}
 use Rattle.ledger.proofs.Ledger.make_parts.Tie as tie
-use Rattle.duties.proofs.weigh.Reads as weigh-reads
-use Rattle.pages.proofs.put_contract.Reads as put-contract-reads
-use Rattle.sheets.proofs.node_weight.Reads as node-weight-reads
-use Rattle.sheets.proofs.part_count.Reads as part-count-reads
-use Rattle.sheets.proofs.part_of.Reads as part-of-reads
 
 abbrev Inv-loop : tie.InvT-loop
 Inv-loop self₀ t x q v set cells₀ count total left₀ i₀ self cells left i = (length cells ≡ length cells₀) × Splits t (book self₀ (pagesIn cells₀)) q v set (book self (pagesIn cells)) left i

@@ -1,17 +1,11 @@
 use native.Mathlib.Omega.{arith}
-use mathlib.Core.Path.{_≡_, ap, _∙_}
-use Prim.Native.Nat.{_≤_}
-use lib.ListN.{length, length-replicate}
-use Rattle.pages.specs.Pages.{cellsLong, withContract, withSet, pagesIn}
+use mathlib.Core.Path.{ap, _∙_}
+use lib.ListN.{length}
+use Rattle.pages.specs.Pages.{withContract, withSet, pagesIn}
 use Rattle.ledger.proofs.Beginning.{cells-long, begins-by}
 use borrow.Author.Needs.{needs}
 use Rattle.ledger.proofs.Ledger.new.Statement.{statement}
 use Rattle.ledger.proofs.Ledger.new.Tie as tie
-use Rattle.duties.proofs.deposits.Reads as deposits-reads
-use Rattle.ledger.proofs.store.Reads as store-reads
-use Rattle.pages.proofs.put_contract.Reads as put-contract-reads
-use Rattle.pages.proofs.put_set.Reads as put-set-reads
-use Rattle.sheets.proofs.def_root.Reads as def-root-reads
 
 deposits-requires : tie.Need-deposits-requires
 deposits-requires c κs = search needs

@@ -1,5 +1,5 @@
 use native.Mathlib.Omega.{arith}
-use mathlib.Core.Path.{_≡_, sym, ap, _∙_}
+use mathlib.Core.Path.{sym, ap, _∙_}
 use Rattle.tables.specs.Entries.{held, people}
 use Rattle.duties.specs.Duties.{notYet}
 use Rattle.pages.specs.Pages.{pagesIn}
@@ -10,11 +10,6 @@ use Rattle.ledger.proofs.Renewing.{renew-absent, renew-other, renew-lat
 use borrow.Author.Needs.{needs}
 use Rattle.ledger.proofs.Ledger.renew.Statement.{statement}
 use Rattle.ledger.proofs.Ledger.renew.Tie as tie
-use Rattle.duties.proofs.held_back.Reads as held-back-reads
-use Rattle.ledger.proofs.Ledger.renew_as.Reads as renew-as-reads
-use Rattle.ledger.proofs.live_branch.Reads as live-branch-reads
-use Rattle.pages.proofs.signed_for.Reads as signed-for-reads
-use Rattle.sheets.proofs.branch_kind.Reads as branch-kind-reads
 
 live-branch-requires : tie.Need-live-branch-requires
 live-branch-requires c κs = search needs

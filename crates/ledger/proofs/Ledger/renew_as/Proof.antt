@@ -2,7 +2,7 @@ use Rattle.pages.specs.Pages.{pagesIn, withContract, withSet}
 use Rattle.ledger.specs.Does.{Does, renewal}
 use Rattle.ledger.specs.Steps.{Stores}
 use native.Mathlib.Omega.{arith}
-use mathlib.Core.Path.{_≡_, sym, ap, subst, _∙_}
+use mathlib.Core.Path.{sym, ap, subst, _∙_}
 use borrow.Author.Tests.{not-true, not-false}
 use Prim.Native.Nat.{_+_, _<_}
 use lib.ListN.{length}
@@ -15,16 +15,6 @@ use Rattle.ledger.proofs.Renewing.{n-numbers, def-in, renew-count-by, r
 use borrow.Author.Needs.{needs}
 use Rattle.ledger.proofs.Ledger.renew_as.Statement.{statement}
 use Rattle.ledger.proofs.Ledger.renew_as.Tie as tie
-use Rattle.duties.proofs.deposits.Reads as deposits-reads
-use Rattle.ledger.proofs.has_room.Reads as has-room-reads
-use Rattle.ledger.proofs.store.Reads as store-reads
-use Rattle.pages.proofs.balance_of.Reads as balance-of-reads
-use Rattle.pages.proofs.bury.Reads as bury-reads
-use Rattle.pages.proofs.put_contract.Reads as put-contract-reads
-use Rattle.pages.proofs.put_set.Reads as put-set-reads
-use Rattle.sheets.proofs.branch_arg.Reads as branch-arg-reads
-use Rattle.sheets.proofs.def_root.Reads as def-root-reads
-use Rattle.sheets.proofs.def_secrets.Reads as def-secrets-reads
 
 branch-arg-requires : tie.Need-branch-arg-requires
 branch-arg-requires c κs = let a = c .before .before .before .args in let p = c .before .before .before .pre in (p .0, n-numbers (a .t .now) (book (a .self) (pagesIn (a .cells .now))) (a .c) (a .b) (a .vs .now) (a .q) (p .0) (p .1 .0) (p .1 .1 .0) (p .1 .1 .1 .0) .0)

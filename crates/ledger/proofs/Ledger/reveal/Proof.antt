@@ -12,17 +12,6 @@ use Rattle.ledger.proofs.Revealing.{r-numbers, r-untold, r-false, r-ful
 use borrow.Author.Needs.{needs}
 use Rattle.ledger.proofs.Ledger.reveal.Statement.{statement}
 use Rattle.ledger.proofs.Ledger.reveal.Tie as tie
-use Rattle.duties.proofs.all_told.Reads as all-told-reads
-use Rattle.duties.proofs.holds_for.Reads as holds-for-reads
-use Rattle.pages.proofs.balance_of.Reads as balance-of-reads
-use Rattle.pages.proofs.bury.Reads as bury-reads
-use Rattle.pages.proofs.count_of.Reads as count-of-reads
-use Rattle.pages.proofs.put_contract.Reads as put-contract-reads
-use Rattle.pages.proofs.set_of.Reads as set-of-reads
-use Rattle.sheets.proofs.branch_arg.Reads as branch-arg-reads
-use Rattle.sheets.proofs.branch_cond.Reads as branch-cond-reads
-use Rattle.sheets.proofs.branch_first.Reads as branch-first-reads
-use Rattle.sheets.proofs.branch_secrets.Reads as branch-secrets-reads
 
 set-of-requires : tie.Need-set-of-requires
 set-of-requires c κs = search needs

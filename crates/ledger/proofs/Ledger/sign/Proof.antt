@@ -10,12 +10,6 @@ use Rattle.ledger.proofs.Signing.{sign-absent, sign-stranger-by, sign-t
 use borrow.Author.Needs.{needs}
 use Rattle.ledger.proofs.Ledger.sign.Statement.{statement}
 use Rattle.ledger.proofs.Ledger.sign.Tie as tie
-use Rattle.duties.proofs.signs.Reads as signs-reads
-use Rattle.ledger.proofs.live_branch.Reads as live-branch-reads
-use Rattle.pages.proofs.put_signed.Reads as put-signed-reads
-use Rattle.pages.proofs.signed_for.Reads as signed-for-reads
-use Rattle.sheets.proofs.branch_signers.Reads as branch-signers-reads
-use Rattle.tables.proofs.mask_of.Reads as mask-of-reads
 
 live-branch-requires : tie.Need-live-branch-requires
 live-branch-requires c κs = search needs

@@ -3,20 +3,12 @@ use Rattle.pages.specs.Pages.{pagesIn}
 use Rattle.ledger.specs.declared.Ledger.{Ledger}
 use Rattle.ledger.proofs.Splitting.{s-numbers, s-full, s-taken-by}
 use native.Mathlib.Omega.{arith}
-use mathlib.Core.Path.{_≡_, sym, subst}
-use Rattle.pages.specs.Pages.{Pages, pagesIn}
-use Rattle.tables.specs.Entries.{held}
+use Rattle.pages.specs.Pages.{pagesIn}
 use Rattle.ledger.specs.Book.{book}
-use Rattle.ledger.specs.Steps.{Contracts, shares, Makes}
 use Rattle.ledger.proofs.Making.{dying-fits}
 use borrow.Author.Needs.{needs}
 use Rattle.ledger.proofs.Ledger.split.Statement.{statement}
 use Rattle.ledger.proofs.Ledger.split.Tie as tie
-use Rattle.ledger.proofs.Ledger.make_parts.Reads as make-parts-reads
-use Rattle.pages.proofs.balance_of.Reads as balance-of-reads
-use Rattle.pages.proofs.bury.Reads as bury-reads
-use Rattle.pages.proofs.set_of.Reads as set-of-reads
-use Rattle.sheets.proofs.part_count.Reads as part-count-reads
 
 part-count-requires : tie.Need-part-count-requires
 part-count-requires c κs = let a = c .before .before .before .args in let p = c .before .before .before .pre in (p .0, (p .1 .0, s-numbers (a .t .now) (book (a .self) (pagesIn (a .cells .now))) (a .c) (a .b) (a .q) (p .0) (p .1 .1 .0) (p .1 .1 .1 .0) (p .1 .1 .1 .1 .0) .0))

@@ -4,9 +4,6 @@ use Rattle.ledger.proofs.Telling.{tell-unknown, tell-past, tell-kept, t
 use borrow.Author.Needs.{needs}
 use Rattle.ledger.proofs.Ledger.tell.Statement.{statement}
 use Rattle.ledger.proofs.Ledger.tell.Tie as tie
-use Rattle.pages.proofs.count_of.Reads as count-of-reads
-use Rattle.pages.proofs.put_state.Reads as put-state-reads
-use Rattle.pages.proofs.state_at.Reads as state-at-reads
 
 returns : tie.Need-returns
 returns c = let p = c .before .before .before .pre in tell-unknown _ _ _ _ (p .0) (p .1 .0) (omega arith)

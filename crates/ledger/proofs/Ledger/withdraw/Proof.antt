@@ -1,16 +1,10 @@
 use native.Mathlib.Omega.{arith}
-use mathlib.Core.Path.{ap}
 use Rattle.pages.specs.Pages.{pagesIn}
 use Rattle.ledger.specs.Book.{book}
 use Rattle.ledger.proofs.Firing.{entry-below, pay-fits-by, w-taken-by}
 use borrow.Author.Needs.{needs}
 use Rattle.ledger.proofs.Ledger.withdraw.Statement.{statement}
 use Rattle.ledger.proofs.Ledger.withdraw.Tie as tie
-use Rattle.pages.proofs.balance_of.Reads as balance-of-reads
-use Rattle.pages.proofs.bury.Reads as bury-reads
-use Rattle.pages.proofs.paid_to.Reads as paid-to-reads
-use Rattle.pages.proofs.put_paid.Reads as put-paid-reads
-use Rattle.sheets.proofs.branch_arg.Reads as branch-arg-reads
 
 branch-arg-requires : tie.Need-branch-arg-requires
 branch-arg-requires c κs = let a = c .before .before .args in let p = c .before .before .pre in (p .0, entry-below (a .t .now) (book (a .self) (pagesIn (a .cells .now))) (a .c) (a .b) (a .q) (p .0) (p .1 .0) (p .1 .1 .0))

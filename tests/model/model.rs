@@ -27,7 +27,7 @@ pub mod sheets;
 use sheets::Answer;
 use std::cmp::Reverse;
 use std::collections::VecDeque;
-use std::ops::Deref;
+use std::ops::{Deref, Range};
 use wrong::Operand;
 
 // ---------------------------------------------------------------------------------------------
@@ -240,6 +240,19 @@ pub enum Term {
 pub struct Condition<'s>(pub &'s [Term]);
 
 impl Sheet {
+    /// Adds a node whose branches are still due, and gives their places: side by side, those of the
+    /// contracts in them behind.
+    fn add_node(&mut self, definition: usize, depth: usize, count: usize) -> Range<usize> {
+        let first = self.branches.len();
+        self.branches.resize(first + count, DUE);
+        self.nodes.push(Node {
+            definition,
+            depth,
+            branches: Span::new(first, count),
+        });
+        first..first + count
+    }
+
     /// The deposits of a definition.
     pub fn deposits(&self, definition: usize) -> &[u64] {
         &self.deposits[definition * self.participants..][..self.participants]
@@ -821,15 +834,7 @@ impl<'a> Reader<'a> {
         if rule!(false; BranchesForetold: self.branches + count > BRANCHES) {
             return Err(7);
         }
-        // The node's branches stand side by side, those of the contracts in them behind.
-        let first = self.sheet.branches.len();
-        self.sheet.branches.resize(first + count, DUE);
-        self.sheet.nodes.push(Node {
-            definition,
-            depth,
-            branches: Span::new(first, count),
-        });
-        for place in first..first + count {
+        for place in self.sheet.add_node(definition, depth, count) {
             self.sheet.branches[place] = self.branch(depth)?;
         }
         Ok(node)

@@ -6,9 +6,9 @@
 //!   one that reading gives in that place, builds the sheet and prints it.
 
 use super::{
-    nowhere, wrong, Action, Branch, Condition, Definition, Few, Node, Part, Reader, Refusal, Sheet,
-    Span, Term, Text, BRANCHES, BRANCHES_OF_A_NODE, CONDITION_FIELDS, DEFINITIONS, DEPTH, DUE,
-    NODES, PARTICIPANTS, PARTS, REQUEST_BYTES, SATOSHI, SECRETS, SHEET_BYTES, TIME, VALUE, WEIGHT,
+    nowhere, wrong, Action, Branch, Condition, Definition, Few, Part, Reader, Refusal, Sheet, Span,
+    Term, Text, BRANCHES, BRANCHES_OF_A_NODE, CONDITION_FIELDS, DEFINITIONS, DEPTH, NODES,
+    PARTICIPANTS, PARTS, REQUEST_BYTES, SATOSHI, SECRETS, SHEET_BYTES, TIME, VALUE, WEIGHT,
 };
 
 // ---------------------------------------------------------------------------------------------
@@ -409,14 +409,7 @@ impl Walk<'_> {
         let heaviest = rule!(heaviest; OtherWeightsNotAsked: heaviest.max(WEIGHT));
         within(weight, 0, heaviest)?;
         within(count, 0, limit!(BranchesOfANode, BRANCHES_OF_A_NODE))?;
-        let first = self.sheet.branches.len();
-        self.sheet.branches.resize(first + count, DUE);
-        self.sheet.nodes.push(Node {
-            definition,
-            depth,
-            branches: Span::new(first, count),
-        });
-        for place in first..first + count {
+        for place in self.sheet.add_node(definition, depth, count) {
             self.sheet.branches[place] = self.branch(number, depth)?;
         }
         Some(Part {

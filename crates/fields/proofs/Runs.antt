@@ -106,7 +106,8 @@ run-is (suc n) v p (b ∷ r) = go (isDigit b) (run-is n (v * 10 + (b - zeroDigit
     go true h = h ∙ (λ i. record { value = digitsOn (v * 10 + (b - zeroDigit)) (take (digitsFirst n r) r); end = (let z : p + 1 + digitsFirst n r ≡ p + suc (digitsFirst n r) = omega arith in z) i })
     go false h = λ i. record { value = v; end = (let z : p ≡ p + 0 = omega arith in z) i }
 
-digit-no-sep : (b : ℕ) → isDigit b ≡ true → isSep b ≡ false
+-- a digit is neither a comma nor an LF
+pub digit-no-sep : (b : ℕ) → isDigit b ≡ true → isSep b ≡ false
 digit-no-sep b e = go (leb zeroDigit b) refl
   where
     go : (x : Bool) → leb zeroDigit b ≡ x → isSep b ≡ false

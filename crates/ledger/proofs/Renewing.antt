@@ -189,7 +189,7 @@ module _ (t : List ℕ) (l : Book) (c b : ℕ) (vs : List ℕ) (q : ℕ) (ok : R
             (getD-set-other (l .definition) (l .sets) i D 0 ne)
             (ap (λ n. firstOf (secretOf R i) n) (getD-set-other (l .count) (l .sets) i (length vs) 0 ne)
             ∙ firstOf-agree (secretOf R i) (secretOf l i) (getD (l .count) i 0) (λ j k.
-            let p = s .other (i * 8 + j) (omega (arith, f .count i h)) in ap₂ commitmentOf (p .0) (p .1)))
+            let p = s .other (i * 8 + j) (λ j′ q e. omega (arith, f .count i h)) in ap₂ commitmentOf (p .0) (p .1)))
 
         renew-view : view (people t) R ≡ after (sheetIn t) is (renewal c b vs)
         unfolding after view

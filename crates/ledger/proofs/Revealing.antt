@@ -21,7 +21,7 @@ use Rattle.duties.specs.Duties.{toldAt, numberAt}
 use Rattle.duties.proofs.Secrets.{number-in, number-past}
 use Rattle.pages.specs.Pages.{size, start, cellsLong, pagesIn, setNumbers, states, values}
 use Rattle.pages.specs.Pages.{counts as countsOf}
-use Rattle.pages.proofs.Laws.{page-long, page-part}
+use Rattle.pages.proofs.Laws.{part-long, page-part}
 use Rattle.ledger.specs.declared.Ledger.{Ledger}
 use Rattle.ledger.specs.Book.{Book, book}
 use Rattle.ledger.specs.View.{view, setOf, commitmentOf}
@@ -176,12 +176,12 @@ module _ (C : List ℕ) (h : cellsLong ≤ length C) where
   values-are = page-part C values (omega arith)
 
   pub states-long : length (take 256 (drop 1088 C)) ≡ 256
-  unfolding size
-  states-long = ap (λ xs. length xs) states-are ∙ page-long C states
+  unfolding size start
+  states-long = part-long C states 256 (omega arith) (omega arith)
 
   pub values-long : length (take 256 (drop 1344 C)) ≡ 256
-  unfolding size
-  values-long = ap (λ xs. length xs) values-are ∙ page-long C values
+  unfolding size start
+  values-long = part-long C values 256 (omega arith) (omega arith)
 
   module _ (c : ℕ) {i k : ℕ} (ei : i ≡ getD (pagesIn C setNumbers) c 0) (ek : k ≡ getD (pagesIn C countsOf) i 0) where
     same-count : k ≡ getD (pagesIn C countsOf) (getD (pagesIn C setNumbers) c 0) 0

@@ -74,7 +74,7 @@ module _ {state value : List ℕ} (i : ℕ) (vs : List ℕ) (n : ℕ) (state′ 
         (λ (e : j ≡ n). subst (λ j. (getD st (i * 8 + j) 0 ≡ stateOf (getD vs j 0)) × (getD va (i * 8 + j) 0 ≡ getD vs j 0 - 1)) (sym e) (new-state, new-value))
         (λ (ne : j ≡ n → ⊥). let d : i * 8 + j ≡ i * 8 + n → ⊥ = λ e. ne (omega arith) in let p = s .here j (omega arith) in (same-state (i * 8 + j) d ∙ p .0, same-value (i * 8 + j) d ∙ p .1))
         (same? j n);
-    other = λ k h. let d : k ≡ i * 8 + n → ⊥ = λ e. omega arith in let p = s .other k h in (same-state k d ∙ p .0, same-value k d ∙ p .1);
+    other = λ k h. let d : k ≡ i * 8 + n → ⊥ = h n (omega arith) in let p = s .other k (λ j q. h j (omega arith)) in (same-state k d ∙ p .0, same-value k d ∙ p .1);
     small = λ f k. at-set (λ y. y ≤ 1000000000) value′ (i * 8 + n) k (getD vs n 0 - 1) 0 (s .small f k) (λ e. omega arith);
     blank = λ f k h. ⊎-elim
         (λ (e : k ≡ i * 8 + n). ap (λ k. getD va k 0) e ∙ new-value ∙ blank-zero (getD vs n 0) (sym new-state ∙ sym (ap (λ k. getD st k 0) e) ∙ h))

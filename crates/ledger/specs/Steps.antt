@@ -101,7 +101,7 @@ pub record Stored (state value : List ℕ) (i : ℕ) (vs : List ℕ) (n : ℕ) (
   pub states : length state′ ≡ 256
   pub values : length value′ ≡ 256
   pub here : (j : ℕ) → j < n → (getD state′ (i * 8 + j) 0 ≡ stateOf (getD vs j 0)) × (getD value′ (i * 8 + j) 0 ≡ getD vs j 0 - 1)
-  pub other : (k : ℕ) → k < i * 8 → (getD state′ k 0 ≡ getD state k 0) × (getD value′ k 0 ≡ getD value k 0)
+  pub other : (k : ℕ) → ((j : ℕ) → j < n → k ≡ i * 8 + j → ⊥) → (getD state′ k 0 ≡ getD state k 0) × (getD value′ k 0 ≡ getD value k 0)
   pub small : ((k : ℕ) → getD value k 0 ≤ 1000000000) → (k : ℕ) → getD value′ k 0 ≤ 1000000000
   pub blank : ((k : ℕ) → getD state k 0 ≡ 0 → getD value k 0 ≡ 0) → (k : ℕ) → getD state′ k 0 ≡ 0 → getD value′ k 0 ≡ 0
 

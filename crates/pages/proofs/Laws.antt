@@ -10,6 +10,7 @@ use lib.ListN.{length, getD, set, take, drop, length-set, length-drop}
 use lib.Seq.{getD-set-same, getD-set-other, ext-getD, length-take-le, getD-take, getD-drop}
 use lib.Dec.{eqb}
 use borrow.Author.Tests.{eqb-true, eqb-false}
+use Rattle.tables.specs.Entries.{firstOf}
 use Rattle.tables.proofs.Laws.{firstOf-length, firstOf-agree, firstOf-getD, firstOf-set}
 use Rattle.pages.specs.Pages.{size, start, cellsLong, Pages, pagesIn, put}
 
@@ -41,12 +42,21 @@ module _ (C : List ℕ) (s : ℕ) where
   unfolding pagesIn
   page-at k h = firstOf-getD (λ i. getD C (start s + i) 0) (size s) k 0 h
 
-  -- the section as a part that is lent
+  -- its first n places as a part that is lent
+  module _ (n : ℕ) (few : n ≤ size s) (h : start s + n ≤ length C) where
+    pub part-long : length (take n (drop (start s) C)) ≡ n
+    part-long = length-take-le n (drop (start s) C) (rw length-drop (omega arith))
+
+    pub page-first : take n (drop (start s) C) ≡ firstOf (λ i. getD (pagesIn C s) i 0) n
+    page-first =
+        ext-getD 0 (take n (drop (start s) C)) (firstOf (λ i. getD (pagesIn C s) i 0) n) (part-long ∙ sym (firstOf-length (λ i. getD (pagesIn C s) i 0) n))
+        (λ i k. let z : i < n = subst (λ m. i < m) part-long k in
+        getD-take n (drop (start s) C) i 0 z ∙ getD-drop (start s) C i 0 ∙ sym (page-at i (omega arith)) ∙ sym (firstOf-getD (λ i. getD (pagesIn C s) i 0) n i 0 z))
+
+  -- and all of them
   pub page-part : start s + size s ≤ length C → take (size s) (drop (start s) C) ≡ pagesIn C s
-  page-part h =
-      let e : length (take (size s) (drop (start s) C)) ≡ size s = length-take-le (size s) (drop (start s) C) (rw length-drop (omega arith)) in
-      ext-getD 0 (take (size s) (drop (start s) C)) (pagesIn C s) (e ∙ sym page-long)
-      (λ i k. let z : i < size s = subst (λ m. i < m) e k in getD-take (size s) (drop (start s) C) i 0 z ∙ getD-drop (start s) C i 0 ∙ sym (page-at i z))
+  unfolding pagesIn
+  page-part h = page-first (size s) (omega arith) h ∙ firstOf-agree (λ i. getD (pagesIn C s) i 0) (λ i. getD C (start s + i) 0) (size s) page-at
 
 -- ---- a store
 

@@ -37,7 +37,7 @@ values = 7
 abbrev pub payments : ℕ
 payments = 8
 
--- a number for each branch of a contract
+-- a number for each branch of a contract, in which a bit is a participant's signature
 abbrev pub signatures : ℕ
 signatures = 9
 
@@ -62,14 +62,15 @@ Pages = ℕ → List ℕ
 unfoldable pub pagesIn : List ℕ → Pages
 pagesIn C s = firstOf (λ i. getD C (start s + i) 0) (size s)
 
--- With v at place k of section s
+-- With v at place k of section s, and all else as it was
 abbrev pub put : ℕ → ℕ → ℕ → Pages → Pages
 put s k v P s′ = cond (eqb s s′) (set (P s′) k v) (P s′)
 
--- Contract c is made, at node n with balance v and set i; it dies
+-- Contract c is made, at node n with balance v and set i
 abbrev pub withContract : ℕ → ℕ → ℕ → ℕ → Pages → Pages
 withContract c n v i P = put lives c 1 (put setNumbers c i (put balances c v (put nodes c n P)))
 
+-- Contract c is dead
 abbrev pub buried : ℕ → Pages → Pages
 buried c P = put lives c 0 P
 

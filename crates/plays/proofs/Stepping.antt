@@ -4,8 +4,7 @@ use Prim.Native.Nat.{ℕ, suc, _+_, _-_, _*_, _≤_, _<_}
 use native.Mathlib.Omega.{arith}
 use native.Mathlib.Numerals.{add-one}
 use mathlib.Core.List.{List}
-use lib.ListN.{length, getD, take, drop, length-drop}
-use lib.Seq.{ext-getD, length-take-le, getD-take, getD-drop}
+use lib.ListN.{length, getD, take, drop}
 use Rattle.bitml.specs.Ledger.{Event, wait, sign, tell, fire, renew}
 use Rattle.bitml.specs.Limits.{limitedRefusal}
 use Rattle.bitml.specs.Answers.{endLine, eventLine, endOf}
@@ -17,14 +16,13 @@ use Rattle.fields.proofs.Ranges.{never}
 use Rattle.fields.proofs.Words.{Bytes}
 use Rattle.tables.specs.Entries.{firstOf, people}
 use Rattle.tables.specs.SheetOf.{sheetIn}
-use Rattle.tables.proofs.Laws.{firstOf-length, firstOf-getD}
 use Rattle.events.specs.Events.{mostWait, mostValues, nextOf, eventAt, eventsAt}
 use Rattle.events.specs.declared.Event as read
 use Rattle.events.specs.declared.Event.the-variants as line
 use Rattle.events.specs.declared.Lines.the-variants as lines
 use Rattle.events.proofs.Sound.{Sound, event-sound}
 use Rattle.pages.specs.Pages.{cellsLong, size, start, pagesIn, lives, payments}
-use Rattle.pages.proofs.Laws.{page-at}
+use Rattle.pages.proofs.Laws.{page-first}
 use Rattle.ledger.specs.declared.Ledger.{Ledger}
 use Rattle.ledger.specs.Book.{Book, book}
 use Rattle.ledger.specs.View.{view, liveOf}
@@ -102,15 +100,6 @@ module _ (s t : List ℕ) (l : Book) (x : read.Event) (m : Book) (q : ℕ) where
   pub moved-renew : (c b v n f : ℕ) (r : Book) {u₀ u : List ℕ} → x ≡ line.Renew c b v n f → Valued s v n u₀ u → Does t l (renewal c b (take n u)) r → m ≡ r → q ≡ f → Moved s t l x m q
   unfolding eventOf nextOf
   moved-renew c b v n f r {u = u} h k = moved-by (line.Renew c b v n f) (renewal c b (take n u)) r f h (ap (λ vs. renew c b vs) (sym (values-are k))) refl
-
--- the amounts paid to the participants, in the cells that are lent
-pub paid-are : (C : List ℕ) (K : ℕ) → K ≤ 16 → cellsLong ≤ length C → take K (drop 1600 C) ≡ firstOf (λ p. getD (pagesIn C payments) p 0) K
-unfolding size start
-paid-are C K h l =
-    let k = length-take-le K (drop 1600 C) (rw length-drop (omega arith)) in
-    ext-getD 0 (take K (drop 1600 C)) (firstOf (λ p. getD (pagesIn C payments) p 0) K) (k ∙ sym (firstOf-length (λ p. getD (pagesIn C payments) p 0) K))
-    (λ i j. let z : i < K = subst (λ m. i < m) k j in
-    getD-take K (drop 1600 C) i 0 z ∙ getD-drop 1600 C i 0 ∙ sym (page-at C payments i (omega arith)) ∙ sym (firstOf-getD (λ p. getD (pagesIn C payments) p 0) K i 0 z))
 
 zero-first : (x : read.Event) (w z : ℕ) → nextOf x ≡ Value w z → nextOf x ≡ Value 0 z
 unfolding nextOf
@@ -205,7 +194,8 @@ module _ (s t : List ℕ) (from first : ℕ) (text₀ : List ℕ) (l₀ : Book) 
 
 pub wrote-end-of : (t : List ℕ) (l : Ledger) (C : List ℕ) → Ready t → cellsLong ≤ length C → (k n : ℕ) → k ≡ people t → n ≡ liveOf (pagesIn C lives) (l .made) → {u v : List ℕ} {a b : ℕ}
     → Wrote u a (lineText (endLine (l .time) n (take (1600 + k - 1600) (drop 1600 C)))) v b → Wrote u a (lineText (endOf (view (people t) (book l (pagesIn C))))) v b
+unfolding size start
 wrote-end-of t l C ok h k n hk hn {u} {v} {a} {b} w =
     let e : take (1600 + k - 1600) (drop 1600 C) ≡ firstOf (λ p. getD (pagesIn C payments) p 0) (people t) =
-    ap (λ j. take j (drop 1600 C)) (let z : 1600 + k - 1600 ≡ people t = omega arith in z) ∙ paid-are C (people t) (ok .promises .limits .people .1) h in
+    ap (λ j. take j (drop 1600 C)) (let z : 1600 + k - 1600 ≡ people t = omega arith in z) ∙ page-first C payments (people t) (ok .promises .limits .people .1) (omega (arith, ok .promises .limits .people)) in
     subst (λ x. Wrote u a (lineText x) v b) (ap₂ (λ i ps. endLine (l .time) i ps) hn e ∙ sym (end-is (people t) (book l (pagesIn C)))) w

@@ -37,7 +37,7 @@ unfolding digits
 digits-one zero d h h′ = absurd (omega arith)
 digits-one (suc k) d h h′ = let small : ltb d 10 ≡ true = lt-ltb d 10 (omega arith) in rw small
 
-pub digit-is : (b : ℕ) → isDigit b ≡ true → (zeroDigit ≤ b) × (b ≤ nineDigit)
+digit-is : (b : ℕ) → isDigit b ≡ true → (zeroDigit ≤ b) × (b ≤ nineDigit)
 digit-is b e = go (leb zeroDigit b) refl (leb b nineDigit) refl e
   where
     go : (x : Bool) → leb zeroDigit b ≡ x → (y : Bool) → leb b nineDigit ≡ y → (x && y) ≡ true → (zeroDigit ≤ b) × (b ≤ nineDigit)

@@ -1,20 +1,21 @@
 -- What is printed reads back: a number, its field, and a line's word and LF. Assumes nothing.
 use Prim.Native.Nat.{ℕ, zero, suc, _+_, _-_, _*_, _/_, _%_, _^_, _≤_, _<_}
 use mathlib.Core.Path.{_≡_, refl, sym, ap, _∙_}
-use mathlib.Core.Bool.{true, false}
+use mathlib.Core.Bool.{true}
 use mathlib.Core.List.{List, [], _∷_, _++_}
 use native.Mathlib.Omega.{arith}
 use lib.ListN.{length, getD, drop, length-drop, length-append}
 use lib.Seq.{getD-drop, drop-drop, take-append-seam, drop-append-seam}
 use lib.Dec.{ltb}
 use borrow.Author.Tests.{ltb-true, ltb-false, lt-ltb, le-ltb, le-leb, eq-eqb, ne-eqb}
-use Rattle.fields.specs.Field.{comma, lf, zeroDigit, isSep, isDigit, allDigits, digitsOn, digitsOf, numberOf, fieldLen, textAt, endAt, numberAt, packedOf, wordFrom, firstAt, lineEndAt, Is}
+use Rattle.fields.specs.Field.{comma, lf, zeroDigit, allDigits, digitsOn, digitsOf, numberOf, fieldLen, textAt, endAt, numberAt, packedOf, wordFrom, firstAt, lineEndAt, Is}
 use Rattle.fields.specs.declared.Got.the-variants.{Value}
 use Rattle.fields.proofs.Laws.{number-by}
+use Rattle.fields.proofs.Runs.{digit-no-sep}
 use Rattle.fields.proofs.Ranges.{cond-cases}
 use Rattle.texts.specs.Text.{digits, decimal, field}
 use Rattle.texts.proofs.Lengths.{decimal-short}
-use Rattle.writing.proofs.Fields.{digit-is, digits-split}
+use Rattle.writing.proofs.Fields.{digits-split}
 
 -- ---- a number
 
@@ -86,15 +87,11 @@ number-reads (suc n) h =
 
 -- ---- a field
 
--- a digit is neither a comma nor an LF
-digit-goes-on : (b : ℕ) → isDigit b ≡ true → isSep b ≡ false
-digit-goes-on b e = let d = digit-is b e in rw (ne-eqb b 44 (λ z. omega (arith, d .0)), ne-eqb b 10 (λ z. omega (arith, d .0)))
-
--- so a field of digits ends where they do
+-- a field of digits ends where they do
 digits-length : (t rest : List ℕ) → allDigits t ≡ true → fieldLen rest ≡ 0 → fieldLen (t ++ rest) ≡ length t
 unfolding fieldLen
 digits-length [] rest a e = e
-digits-length (b ∷ t) rest a e = let w = digits-split b t a in rw (digit-goes-on b (w .0)) (ap suc (digits-length t rest (w .1) e))
+digits-length (b ∷ t) rest a e = let w = digits-split b t a in rw (digit-no-sep b (w .0)) (ap suc (digits-length t rest (w .1) e))
 
 module _ (s : List ℕ) (at : ℕ) where
   -- what stands behind a text, where that text stands

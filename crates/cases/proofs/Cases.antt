@@ -20,7 +20,7 @@ use Rattle.lines.specs.Sheet as sheet
 use Rattle.requests.specs.Part as part
 use Rattle.requests.specs.Rows as row-lines
 use Rattle.events.specs.Events as events
-use Rattle.reader.specs.Request as request
+use Rattle.reading.specs.Request as request
 use Rattle.bitml.specs.Why as why
 use Rattle.bitml.specs.Answers as answers
 use Rattle.bitml.specs.Ledger as ledger
@@ -30,7 +30,7 @@ use Rattle.bitml.specs.Runs as runs
 use Rattle.bitml.specs.Rows as rows
 use Rattle.bitml.specs.Rule as rule
 use Rattle.texts.specs.Text as text
-use Rattle.plays.specs.Values as values
+use Rattle.ledger.specs.Values as values
 use Rattle.plays.specs.Events as played-events
 use Rattle.checker.specs.Entry.{answerForAll, answerFor, judged, early, answerTo, refusedIn, textIn}
 use Rattle.cases.specs.Cases.Case.{Case, printedFor, copies, byte, T, M, D, R, N, W, each, tie}

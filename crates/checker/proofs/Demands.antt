@@ -20,8 +20,8 @@ use Rattle.bitml.specs.Answers.{making, explaining, checking, rowLine, frozenLi
 use Rattle.bitml.proofs.Demands.{demands}
 use Rattle.tables.specs.Entries.{Entries}
 use Rattle.tables.specs.SheetOf.{sheetOf}
-use Rattle.reader.specs.Request.{request, LastPart, make, why, check, readRequest}
-use Rattle.reader.proofs.Formed.{well-formed}
+use Rattle.reading.specs.Request.{request, LastPart, make, why, check, readRequest}
+use Rattle.reading.proofs.Formed.{well-formed}
 use Rattle.promises.specs.Texts.{PromisedWhole}
 use Rattle.promises.proofs.Whole.{promised-whole}
 use Rattle.checker.specs.Entry.{answerFor, judged, answerTo}

@@ -19,9 +19,9 @@ use Rattle.tables.proofs.Laws.{firstOf-getD}
 use Rattle.tables.proofs.Held.{node-held}
 use Rattle.requests.specs.Rows.{RowFits, countIn, row, rowIn, rowsOf}
 use Rattle.requests.proofs.Laws.{rows-length}
-use Rattle.reader.specs.declared.Request.{Request}
-use Rattle.reader.specs.declared.Request.the-variants as code
-use Rattle.reader.specs.Request.{LastPart, request, readRequest, answered, makeAll, check}
+use Rattle.reading.specs.declared.Request.{Request}
+use Rattle.reading.specs.declared.Request.the-variants as code
+use Rattle.reading.specs.Request.{LastPart, request, readRequest, answered, makeAll, check}
 use Rattle.promises.specs.Parts.{PartPromise}
 use Rattle.promises.specs.Texts.{PromisedWhole}
 use Rattle.promises.proofs.Whole.{promised-whole, whole-paid}

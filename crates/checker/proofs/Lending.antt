@@ -9,7 +9,7 @@ use borrow.Author.Tests.{le-ltb, le-leb, lt-leb}
 use Rattle.bitml.proofs.Lists.{and-true, and-false}
 use Rattle.fields.proofs.Words.{Bytes}
 use Rattle.tables.specs.Entries.{Entries}
-use Rattle.reader.specs.Request.{request, makeAll, readRequest}
+use Rattle.reading.specs.Request.{request, makeAll, readRequest}
 use Rattle.promises.proofs.LastLine.{all-last}
 use Rattle.checker.specs.Entry.{placesOfAll}
 use Rattle.checker.specs.Lending.{numbersOfOne, Wide, namesAll, endsInAll, wantsAll}

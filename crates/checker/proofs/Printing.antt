@@ -22,14 +22,14 @@ use Rattle.replies.specs.Answer.{replyOf, bytesOf}
 use Rattle.bitml.specs.Sheet.{Sheet}
 use Rattle.bitml.specs.Ledger.{Event, stipulated}
 use Rattle.bitml.specs.Limits.{answers, limitedPlay}
-use Rattle.plays.specs.Values.{valuesOf}
+use Rattle.ledger.specs.Values.{valuesOf}
 use Rattle.plays.specs.Events.{eventsOf}
 use Rattle.bitml.specs.Rule.{Verdict, liquid, frozen, make}
 use Rattle.texts.proofs.Texts.{lines-append, one-line}
 use Rattle.bitml.specs.Rows.{check}
-use Rattle.reader.specs.Request.{Reading, request, readRequest}
-use Rattle.reader.specs.Request.{refused as unread}
-use Rattle.reader.specs.Request as part
+use Rattle.reading.specs.Request.{Reading, request, readRequest}
+use Rattle.reading.specs.Request.{refused as unread}
+use Rattle.reading.specs.Request as part
 use Rattle.promises.specs.Texts.{PromisedWhole}
 use Rattle.promises.proofs.Whole.{promised-whole}
 use Rattle.checker.specs.Entry.{placesOfAll, answerForAll, answerFor, judged, early, answerTo, refusedIn, textIn}

@@ -21,13 +21,13 @@ use Rattle.bitml.proofs.Demands.{demands}
 use Rattle.fields.proofs.Ranges.{cond-cases}
 use Rattle.tables.specs.Entries.{Entries}
 use Rattle.tables.specs.SheetOf.{sheetOf, defEntryAt}
-use Rattle.reader.specs.Request.{Reading, request, LastPart, make, makeAll, why, check, play, readRequest}
-use Rattle.reader.specs.Request.{refused as unread}
+use Rattle.reading.specs.Request.{Reading, request, LastPart, make, makeAll, why, check, play, readRequest}
+use Rattle.reading.specs.Request.{refused as unread}
 use Rattle.promises.specs.Refusals.{ReadNumber, OfReadings}
 use Rattle.promises.proofs.Refusals.{of-readings}
 use Rattle.promises.proofs.Events.{of-events}
 use Rattle.replies.specs.Answer.{leastText}
-use Rattle.plays.specs.Values.{valuesOf}
+use Rattle.ledger.specs.Values.{valuesOf}
 use Rattle.plays.specs.Events.{eventsOf}
 use Rattle.plays.proofs.Ranges.{events-range}
 use Rattle.checker.specs.Demands.{Room}

@@ -16,7 +16,7 @@ use Rattle.bitml.specs.Answers.{Line, rowLine, frozenLine, stepLine, branchLine
 use Rattle.bitml.specs.Demands.{Frozen, Published}
 use Rattle.tables.specs.Entries.{Entries}
 use Rattle.tables.specs.SheetOf.{sheetOf}
-use Rattle.reader.specs.Request.{request, make, why, check, readRequest}
+use Rattle.reading.specs.Request.{request, make, why, check, readRequest}
 use Rattle.replies.specs.Answer.{leastText}
 use Rattle.checker.specs.Entry.{answerTo}
 

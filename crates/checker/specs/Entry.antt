@@ -8,14 +8,14 @@ use Rattle.bitml.specs.Lists.{_&_, ask}
 use Rattle.bitml.specs.Sheet.{Sheet}
 use Rattle.tables.specs.Entries.{Entries}
 use Rattle.tables.specs.SheetOf.{sheetOf, defEntryAt}
-use Rattle.reader.specs.Request.{Reading, request, LastPart, make, makeAll, why, check, play, readRequest}
-use Rattle.reader.specs.Request.{refused as unread}
+use Rattle.reading.specs.Request.{Reading, request, LastPart, make, makeAll, why, check, play, readRequest}
+use Rattle.reading.specs.Request.{refused as unread}
 use Rattle.bitml.specs.Answers.{refusedLine, making, makingAll, explaining, checking, playing, Answer, refused, printed, answer}
 use Rattle.texts.specs.Text.{lineText, linesText}
 use Rattle.lent.specs.declared.Row.{Row}
 use Rattle.lent.specs.Structs.{noRow, structOf}
 use Rattle.replies.specs.Answer.{leastText}
-use Rattle.plays.specs.Values.{valuesOf}
+use Rattle.ledger.specs.Values.{valuesOf}
 use Rattle.plays.specs.Events.{eventsOf}
 
 -- `makeall`: "Its call lends 8,192 places for rows"

@@ -10,7 +10,7 @@ use Rattle.fields.specs.Field.{spelled, firstAt}
 use Rattle.fields.specs.declared.Got.{Got}
 use Rattle.fields.specs.declared.Got.the-variants.{Value, Bad}
 use Rattle.tables.specs.Entries.{Entries}
-use Rattle.reader.specs.Request.{request, makeAll, readRequest}
+use Rattle.reading.specs.Request.{request, makeAll, readRequest}
 use Rattle.checker.specs.Entry.{placesOfAll}
 
 -- three numbers for each row of any word but `makeall`, and for those of `makeall`

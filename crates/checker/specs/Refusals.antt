@@ -11,11 +11,11 @@ use Rattle.bitml.specs.Limits.{answers}
 use Rattle.bitml.specs.Answers.{refused}
 use Rattle.tables.specs.Entries.{Entries}
 use Rattle.tables.specs.SheetOf.{sheetOf, defEntryAt}
-use Rattle.reader.specs.Request.{request, makeAll, check, play, readRequest}
-use Rattle.reader.specs.Request.{refused as unread}
+use Rattle.reading.specs.Request.{request, makeAll, check, play, readRequest}
+use Rattle.reading.specs.Request.{refused as unread}
 use Rattle.promises.specs.Refusals.{WhileReading, EventNumber}
 use Rattle.replies.specs.Answer.{leastText}
-use Rattle.plays.specs.Values.{valuesOf}
+use Rattle.ledger.specs.Values.{valuesOf}
 use Rattle.plays.specs.Events.{eventsOf}
 use Rattle.checker.specs.Demands.{Room}
 use Rattle.checker.specs.Entry.{placesOfAll, answerTo}

@@ -1,12 +1,12 @@
 // The checker's entry: any request and any lent buffers get one reply, and so do any text and any table.
+use reader::first_from;
 use fields::Got;
-use fields::first;
 use lent::Row;
 use lent::emit_rows;
 use loading::read_sheet;
 use plays::play_for;
-use reader::Request;
-use reader::read;
+use reading::Request;
+use reading::read;
 use reasons::why_for;
 use replies::Reply;
 use replies::refuse;
@@ -21,7 +21,7 @@ ghost use mathlib.Core.Path.{_≡_};
 ghost use mathlib.Core.Bool.{true, false};
 ghost use Prim.Native.Nat.{_/_, _*_, _-_, _≤_};
 ghost use lib.ListN.{length, take, drop, replicate};
-ghost use Rattle.reader.specs.Request.{readRequest};
+ghost use Rattle.reading.specs.Request.{readRequest};
 ghost use Rattle.tables.specs.Entries.{Spacious};
 ghost use Rattle.tables.specs.SheetOf.{sheetIn};
 ghost use Rattle.sheets.specs.Ready.{Ready};
@@ -155,7 +155,7 @@ fn ends_in_all(s: &[u8]) -> bool
     if n < ALL_LINE {
         return false;
     }
-    let g = first(s, n - ALL_LINE);
+    let g = first_from(s, n - ALL_LINE);
     match g {
         Got::Value(w, _) => w == MAKEALL,
         Got::Bad(_, _) => false,

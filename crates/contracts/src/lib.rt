@@ -1,6 +1,6 @@
 // A contract and its branches, read into the table that the caller lends.
 use conditions::condition;
-use fields::word;
+use reader::word_from;
 use steps::Read;
 use steps::move_on;
 use steps::num;
@@ -122,7 +122,7 @@ pub fn contract(
     requires { ⌜ Few (now s) lim st ⌝ }
     ensures { λ r. ⌜ Met (Few (now (s .entry)) lim) (readContract (now (s .entry)) lim depth parent weight (stateOf st (now (t .entry)))) r (now (t .exit)) ⌝ }
 {
-    let a = word(s, st.at);
+    let a = word_from(s, st.at);
     let g = move_on(st, a);
     let Read::Value(w, e) = g else {
         return g;
@@ -174,7 +174,7 @@ fn branch(s: &[u8], st: St, depth: usize, node: usize, lim: Limits, t: &mut [usi
     let Read::Value(opens, f) = h else {
         return h;
     };
-    let a = word(s, f.at);
+    let a = word_from(s, f.at);
     let i = move_on(f, a);
     let Read::Value(w, l) = i else {
         return i;

@@ -10,8 +10,8 @@ use Rattle.bitml.proofs.Balance.{Payable}
 use Rattle.tables.specs.Entries.{Entries}
 use Rattle.tables.specs.SheetOf.{branchEntryAt, branchNumber, partNumbers, partOf, branchOf, actionOf, sheetOf}
 use Rattle.tables.proofs.SheetOf.{map-map, branch-of, branch-small}
-use Rattle.reader.specs.Promises.{Promises}
-use Rattle.reader.proofs.Formed.{in-nodes, in-branches}
+use Rattle.reading.specs.Promises.{Promises}
+use Rattle.reading.proofs.Formed.{in-nodes, in-branches}
 
 module _ (K : ℕ) (E : Entries) (ok : Promises K E) where
   pays : (b p k : ℕ) → b < length (E .branches) → branchEntryAt E b .kind ≡ k → actionOf E b k ≡ withdraw p → p < K

@@ -9,7 +9,7 @@ use Rattle.bitml.proofs.Counting.{up-one, up-end}
 use Rattle.tables.specs.Entries.{Entries}
 use Rattle.tables.specs.SheetOf.{nodeEntryAt, partCount, partNumber, depositOf}
 use Rattle.tables.proofs.SheetOf.{map-map, parts-are}
-use Rattle.reader.specs.Promises.{Promises}
+use Rattle.reading.specs.Promises.{Promises}
 use Rattle.duties.specs.Duties.{weightOf, depositsOf}
 
 -- the sum of f over the numbers from i on that are below n

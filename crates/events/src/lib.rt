@@ -1,10 +1,10 @@
 // The event lines of `play`. One reader serves the reading of the whole request and the play after it.
+use reader::first_from;
+use reader::line_end_from;
+use reader::number_below;
+use reader::number_between;
+use reader::number_up_to;
 use fields::Got;
-use fields::first;
-use fields::line_end;
-use fields::number;
-use fields::number_below;
-use fields::number_between;
 use requests::past_value;
 ghost use mathlib.Core.Path.{_≡_};
 ghost use Rattle.events.specs.Events.{pairAt, lastPairAt, waitAt, signAt, tellAt, fireAt, valuesAt, renewAt, eventAt, nextOf, eventsAt};
@@ -67,10 +67,10 @@ pub enum Lines {
 fn pair_at(s: &[u8], at: usize) -> Pair
     ensures { λ r. ⌜ r ≡ pairAt (now (s .entry)) at ⌝ }
 {
-    let g = number(s, at, LARGEST);
+    let g = number_up_to(s, at, LARGEST);
     match g {
         Got::Value(a, e) => {
-            let h = number(s, e, LARGEST);
+            let h = number_up_to(s, e, LARGEST);
             match h {
                 Got::Value(b, f) => Pair::Two(a, b, f),
                 Got::Bad(m, p) => Pair::Bad(m, p),
@@ -87,7 +87,7 @@ fn last_pair(s: &[u8], at: usize) -> Pair
     let g = pair_at(s, at);
     match g {
         Pair::Two(a, b, e) => {
-            let h = line_end(s, e);
+            let h = line_end_from(s, e);
             match h {
                 Got::Value(_, f) => Pair::Two(a, b, f),
                 Got::Bad(m, p) => Pair::Bad(m, p),
@@ -104,7 +104,7 @@ fn wait_line(s: &[u8], at: usize) -> Event
     let g = number_between(s, at, 1, LONGEST);
     match g {
         Got::Value(d, e) => {
-            let h = line_end(s, e);
+            let h = line_end_from(s, e);
             match h {
                 Got::Value(_, f) => Event::Wait(d, f),
                 Got::Bad(m, p) => Event::Bad(m, p),
@@ -182,7 +182,7 @@ fn renew_line(s: &[u8], at: usize) -> Event
             let h = values(s, e);
             match h {
                 Got::Value(n, f) => {
-                    let l = line_end(s, f);
+                    let l = line_end_from(s, f);
                     match l {
                         Got::Value(_, z) => Event::Renew(c, b, e, n, z),
                         Got::Bad(m, p) => Event::Bad(m, p),
@@ -199,7 +199,7 @@ fn renew_line(s: &[u8], at: usize) -> Event
 pub fn event_at(s: &[u8], at: usize, people: usize) -> Event
     ensures { λ r. ⌜ r ≡ eventAt (now (s .entry)) people at ⌝ }
 {
-    let g = first(s, at);
+    let g = first_from(s, at);
     match g {
         Got::Value(w, e) => match w {
             WAIT => wait_line(s, e),

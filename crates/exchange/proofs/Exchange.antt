@@ -22,9 +22,9 @@ use Rattle.tables.specs.Entries.{Entries}
 use Rattle.tables.specs.SheetOf.{nodeEntryAt, sheetOf}
 use Rattle.lines.specs.Sheet.{accepted, readSheet}
 use Rattle.requests.specs.Rows.{RowFits, row}
-use Rattle.reader.specs.Promises.{Promises}
-use Rattle.reader.specs.Request.{request, make, check, readRequest}
-use Rattle.reader.proofs.Formed.{well-formed}
+use Rattle.reading.specs.Promises.{Promises}
+use Rattle.reading.specs.Request.{request, make, check, readRequest}
+use Rattle.reading.proofs.Formed.{well-formed}
 use Rattle.promises.specs.Parts.{PartPromise}
 use Rattle.promises.specs.Texts.{Promised, PromisedWhole}
 use Rattle.promises.proofs.Promised.{promised}

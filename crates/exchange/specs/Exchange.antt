@@ -12,7 +12,7 @@ use Rattle.bitml.specs.Answers.{rowLine, liquidBy}
 use Rattle.tables.specs.Entries.{Entries}
 use Rattle.tables.specs.SheetOf.{sheetOf}
 use Rattle.lines.specs.Sheet.{accepted, readSheet}
-use Rattle.reader.specs.Request.{request, check, readRequest}
+use Rattle.reading.specs.Request.{request, check, readRequest}
 use Rattle.texts.specs.Text.{lineText, linesText}
 use Rattle.replies.specs.Answer.{leastText}
 use Rattle.writing.specs.Requests.{makeRequest, checkRequest}

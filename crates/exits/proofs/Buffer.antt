@@ -17,7 +17,7 @@ use Rattle.bitml.proofs.Counting.{keep-cong, keep-append, up-split, up-one, up-
 use Rattle.tables.specs.Entries.{Entries}
 use Rattle.tables.specs.SheetOf.{sheetOf}
 use Rattle.tables.proofs.SheetOf.{nodes-are}
-use Rattle.reader.specs.Promises.{Promises}
+use Rattle.reading.specs.Promises.{Promises}
 use Rattle.exits.specs.declared.Verdict.the-variants.{Liquid, Frozen}
 use Rattle.exits.specs.Marks.{Ranks, Marked, MarksReached}
 use Rattle.exits.proofs.Queue.{flags-none}

@@ -15,7 +15,7 @@ use Rattle.bitml.proofs.Lists.{sum-set}
 use Rattle.bitml.proofs.Counting.{at-store}
 use Rattle.tables.specs.Entries.{Entries}
 use Rattle.tables.specs.SheetOf.{nodeEntryAt, branchEntryAt, defEntryAt, branchCount, branchNumber}
-use Rattle.reader.specs.Promises.{Promises}
+use Rattle.reading.specs.Promises.{Promises}
 use Rattle.exits.specs.Marks.{DefReached, Marked, Grown, BranchLed, NodeLed, DefLed, LedUpTo, Spread, flag}
 
 flag-le : (x : ℕ) → flag x ≤ 1

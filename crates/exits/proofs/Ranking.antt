@@ -15,8 +15,8 @@ use Rattle.bitml.proofs.Counting.{at-store}
 use Rattle.tables.specs.Entries.{Entries}
 use Rattle.tables.specs.SheetOf.{sheetOf, branchOf, branchCount, branchNumber}
 use Rattle.tables.proofs.SheetOf.{count-of, branch-of, nodes-are}
-use Rattle.reader.specs.Promises.{Promises}
-use Rattle.reader.proofs.Formed.{contract-in, well-formed, ranks-small}
+use Rattle.reading.specs.Promises.{Promises}
+use Rattle.reading.proofs.Formed.{contract-in, well-formed, ranks-small}
 use Rattle.exits.specs.Costs.{ranksAt, branchCost, Ranked, chosenFrom}
 use Rattle.exits.specs.Marks.{Ranks}
 

@@ -16,8 +16,8 @@ use Rattle.bitml.proofs.Lists.{all-head, all-tail, all-left, all-right, all-app
 use Rattle.tables.specs.Entries.{Entries}
 use Rattle.tables.specs.SheetOf.{sheetOf, branchOf, actionOf, nodeEntryAt, branchEntryAt, defEntryAt, branchCount, branchNumber}
 use Rattle.tables.proofs.SheetOf.{nodes-are, count-of, branch-of, branch-small, root-is, next-renewal}
-use Rattle.reader.specs.Promises.{Promises, Inside}
-use Rattle.reader.proofs.Formed.{contract-in, contract-of, well-formed}
+use Rattle.reading.specs.Promises.{Promises, Inside}
+use Rattle.reading.proofs.Formed.{contract-in, contract-of, well-formed}
 use Rattle.exits.specs.Marks.{DefReached, Marked, BranchLed, NodeLed, DefLed, LedUpTo, Spread, MarksReached}
 
 pub parts-next : (s : Sheet) (a : Action) (m : ℕ) → List·Memᴰ m (parts a) → List·Memᴰ m (next s a)

@@ -10,7 +10,7 @@ use lib.ListN.{length, getD, take, drop, drop-of-length-le, length-drop, length-
 use lib.Seq.{drop-cons}
 use lib.Dec.{ltb, leb, eqb, lit<}
 use borrow.Author.Tests.{eq-eqb, ne-eqb, lt-ltb, leb-true, ltb-true, eqb-true}
-use Rattle.fields.specs.Field.{comma, lf, isSep, fieldLen, numberOf, numberAt, afterComma, upTo, textAt, endAt, packed, packedOf, wordFrom, wordAt, Num, Is, Not}
+use Rattle.fields.specs.Field.{comma, lf, isSep, fieldLen, numberOf, anySize, anyAt, numberAt, afterComma, upTo, textAt, endAt, packed, packedOf, wordFrom, wordAt, whenRead, Num, Is, Not}
 use Rattle.fields.specs.declared.Got.{Got}
 use Rattle.fields.specs.declared.Got.the-variants.{Value, Bad}
 
@@ -83,6 +83,20 @@ one-letter s p h c n m =
 pub number-by : (s : List ℕ) (at max : ℕ) {n : Num} → at < length s → getD s at 0 ≡ comma → numberOf (textAt s (at + 1)) ≡ n → numberAt s at max ≡ upTo max at (endAt s (at + 1)) n
 unfolding numberAt
 number-by s at max lt eq e = rw (lt-ltb _ _ lt, eq-eqb _ _ eq, e)
+
+pub any-by : (s : List ℕ) (at : ℕ) {n : Num} → at < length s → getD s at 0 ≡ comma → numberOf (textAt s (at + 1)) ≡ n → anyAt s at ≡ anySize at (endAt s (at + 1)) n
+unfolding anyAt
+any-by s at lt eq e = rw (lt-ltb _ _ lt, eq-eqb _ _ eq, e)
+
+-- a number up to max is a number that is at most max
+pub number-capped : (s : List ℕ) (at max : ℕ) → numberAt s at max ≡ whenRead Bad (anyAt s at) (λ v e. cond (leb v max) (Value v e) (Bad 4 at))
+unfolding numberAt anyAt whenRead
+number-capped s at max = go (ltb at (length s) && eqb (getD s at 0) comma) (numberOf (textAt s (at + 1)))
+  where
+    go : (b : Bool) (n : Num) → cond b (upTo max at (endAt s (at + 1)) n) (Bad 2 at) ≡ whenRead Bad (cond b (anySize at (endAt s (at + 1)) n) (Bad 2 at)) (λ v e. cond (leb v max) (Value v e) (Bad 4 at))
+    go true (Is v) = refl
+    go true Not = refl
+    go false n = refl
 
 -- ---- what a field that was read has: a comma before it, an end within the request
 

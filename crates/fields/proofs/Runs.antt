@@ -11,8 +11,8 @@ use lib.ListN.{length, getD, take, drop, length-drop, drop-of-length-le}
 use lib.Seq.{drop-cons, drop-drop, length-take-le, getD-take, getD-drop}
 use lib.Dec.{ltb, leb, eqb}
 use borrow.Author.Tests.{eq-eqb, ne-eqb, lt-ltb, le-ltb, le-leb, lt-leb, ltb-true, ltb-false, eqb-true, leb-true}
-use Rattle.fields.specs.Field.{zeroDigit, nineDigit, comma, lf, isSep, isDigit, fieldLen, textAt, endAt, allDigits, digitsOn, digitsOf, numberOf, numberAt, upTo, Is, Not}
-use Rattle.fields.proofs.Laws.{fieldLen-le, ten-more, ten-below, number-by}
+use Rattle.fields.specs.Field.{zeroDigit, nineDigit, comma, lf, isSep, isDigit, fieldLen, textAt, endAt, allDigits, digitsOn, digitsOf, numberOf, anyAt, anySize, Is, Not}
+use Rattle.fields.proofs.Laws.{fieldLen-le, ten-more, ten-below, any-by}
 use Rattle.fields.specs.Run.{runOn, runAt, endsAt}
 use Rattle.fields.specs.declared.Run.{Run}
 use Rattle.fields.specs.declared.Got.the-variants.{Bad}
@@ -324,23 +324,23 @@ digits-within s p e h =
     let z = first-most 19 (drop p s) in let w = end-is s p in let d = length-drop p s in let x = ap (λ (r : Run). r .end) e in
     omega arith
 
-module _ (s : List ℕ) (at max : ℕ) (lt : at < length s) (eq : getD s at 0 ≡ comma) (g : Run) (eg : g ≡ runAt s (at + 1)) where
+module _ (s : List ℕ) (at : ℕ) (lt : at < length s) (eq : getD s at 0 ≡ comma) (g : Run) (eg : g ≡ runAt s (at + 1)) where
   same-end : runAt s (at + 1) .end ≡ g .end
   same-end = sym (ap (λ (r : Run). r .end) eg)
 
-  pub number-none : g .end ≡ at + 1 → Bad 3 at ≡ numberAt s at max
-  number-none e = sym (number-by s at max lt eq (run-none s (at + 1) (same-end ∙ e)))
+  pub number-none : g .end ≡ at + 1 → Bad 3 at ≡ anyAt s at
+  number-none e = sym (any-by s at lt eq (run-none s (at + 1) (same-end ∙ e)))
 
-  pub number-past : endsAt s (g .end) ≡ false → Bad 3 at ≡ numberAt s at max
-  number-past e = sym (number-by s at max lt eq (run-over s (at + 1) (ap (endsAt s) same-end ∙ e)))
+  pub number-past : endsAt s (g .end) ≡ false → Bad 3 at ≡ anyAt s at
+  number-past e = sym (any-by s at lt eq (run-over s (at + 1) (ap (endsAt s) same-end ∙ e)))
 
   module _ (some : g .end ≡ at + 1 → ⊥) (e : endsAt s (g .end) ≡ true) where
-    pub number-zero : at + 1 + 1 < g .end → getD s (at + 1) 0 ≡ zeroDigit → Bad 3 at ≡ numberAt s at max
-    number-zero h q = sym (number-by s at max lt eq (run-zero s (at + 1) (λ x. some (sym same-end ∙ x)) (ap (endsAt s) same-end ∙ e) (let z = same-end in omega arith) q))
+    pub number-zero : at + 1 + 1 < g .end → getD s (at + 1) 0 ≡ zeroDigit → Bad 3 at ≡ anyAt s at
+    number-zero h q = sym (any-by s at lt eq (run-zero s (at + 1) (λ x. some (sym same-end ∙ x)) (ap (endsAt s) same-end ∙ e) (let z = same-end in omega arith) q))
 
-    pub number-run : (at + 1 + 1 < g .end → getD s (at + 1) 0 ≡ zeroDigit → ⊥) → numberAt s at max ≡ upTo max at (g .end) (Is (g .value))
+    pub number-run : (at + 1 + 1 < g .end → getD s (at + 1) 0 ≡ zeroDigit → ⊥) → anyAt s at ≡ anySize at (g .end) (Is (g .value))
     number-run n =
         let some′ : runAt s (at + 1) .end ≡ at + 1 → ⊥ = λ x. some (sym same-end ∙ x) in
         let e′ : endsAt s (runAt s (at + 1) .end) ≡ true = ap (endsAt s) same-end ∙ e in
-        number-by s at max lt eq (run-number s (at + 1) some′ e′ (λ h q. n (let z = same-end in omega arith) q))
-        ∙ ap₂ (λ x v. upTo max at x (Is v)) (run-ends s (at + 1) some′ e′ ∙ same-end) (sym (ap (λ (r : Run). r .value) eg))
+        any-by s at lt eq (run-number s (at + 1) some′ e′ (λ h q. n (let z = same-end in omega arith) q))
+        ∙ ap₂ (λ x v. anySize at x (Is v)) (run-ends s (at + 1) some′ e′ ∙ same-end) (sym (ap (λ (r : Run). r .value) eg))

@@ -79,6 +79,15 @@ abbrev pub upTo : ℕ → ℕ → ℕ → Num → Got
 upTo max p e (Is v) = cond (leb v max) (Value v e) (Bad 4 p)
 upTo max p e Not = Bad 3 p
 
+-- 3 alone
+abbrev pub anySize : ℕ → ℕ → Num → Got
+anySize p e (Is v) = Value v e
+anySize p e Not = Bad 3 p
+
+-- the field after a comma at `at`, as a number of any size
+unfoldable pub anyAt : List ℕ → ℕ → Got
+anyAt s at = afterComma s at (anySize at (endAt s (at + 1)) (numberOf (textAt s (at + 1))))
+
 -- the field after a comma at `at`, as a number up to max
 unfoldable pub numberAt : List ℕ → ℕ → ℕ → Got
 numberAt s at max = afterComma s at (upTo max at (endAt s (at + 1)) (numberOf (textAt s (at + 1))))

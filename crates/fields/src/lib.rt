@@ -3,7 +3,7 @@ ghost use mathlib.Core.Path.{_≡_};
 ghost use Prim.Native.Nat.{_+_, _≤_, _<_};
 ghost use lib.ListN.{length, drop};
 ghost use Rattle.fields.specs.Run.{runAt, endsAt};
-ghost use Rattle.fields.specs.Field.{fieldLen, packed, packedOf, numberAt, belowAt, betweenAt, wordFrom, wordAt, firstAt, lineEndAt};
+ghost use Rattle.fields.specs.Field.{fieldLen, packed, packedOf, anyAt, wordFrom, wordAt, firstAt, lineEndAt};
 
 const COMMA: u8 = b',';
 
@@ -13,9 +13,6 @@ const LF: u8 = b'\n';
 const DIGITS: usize = 19;
 
 const LETTERS: usize = 7;
-
-// The largest number of so many digits.
-const ANY: usize = 9999999999999999999;
 
 // What digits spell, and the position behind them.
 pub struct Run {
@@ -100,9 +97,9 @@ fn ends(s: &[u8], at: usize) -> bool
     b == LF
 }
 
-// The field after a comma at `at`, as a number up to max.
-pub fn number(s: &[u8], at: usize, max: usize) -> Got
-    ensures { λ r. ⌜ r ≡ numberAt (now (s .entry)) at max ⌝ }
+// The field after a comma at `at`, as a number.
+pub fn number(s: &[u8], at: usize) -> Got
+    ensures { λ r. ⌜ r ≡ anyAt (now (s .entry)) at ⌝ }
 {
     if s.len() <= at {
         return Got::Bad(2, at);
@@ -123,38 +120,7 @@ pub fn number(s: &[u8], at: usize, max: usize) -> Got
             return Got::Bad(3, at);
         }
     }
-    if g.value <= max {
-        return Got::Value(g.value, g.end);
-    }
-    Got::Bad(4, at)
-}
-
-// The field after a comma at `at`, as the number of one of n things.
-pub fn number_below(s: &[u8], at: usize, n: usize) -> Got
-    ensures { λ r. ⌜ r ≡ belowAt (now (s .entry)) at n ⌝ }
-{
-    let g = number(s, at, ANY);
-    let Got::Value(v, e) = g else {
-        return g;
-    };
-    if v < n {
-        return Got::Value(v, e);
-    }
-    Got::Bad(6, at)
-}
-
-// The field after a comma at `at`, as a number from low to high.
-pub fn number_between(s: &[u8], at: usize, low: usize, high: usize) -> Got
-    ensures { λ r. ⌜ r ≡ betweenAt (now (s .entry)) at low high ⌝ }
-{
-    let g = number(s, at, high);
-    let Got::Value(v, e) = g else {
-        return g;
-    };
-    if v < low {
-        return Got::Bad(4, at);
-    }
-    Got::Value(v, e)
+    Got::Value(g.value, g.end)
 }
 
 // A short text as a number in base 256.

@@ -1,5 +1,2 @@
-pub mod Book
-pub mod View
-pub mod Fit
-pub mod Does
-pub mod Steps
+pub mod Values
+pub mod Hands

@@ -1,10 +1,10 @@
 // Line 1 and the `def` lines: the whole sheet, read into the table that the caller lends.
 use contracts::Limits;
 use contracts::contract;
+use reader::first_from;
+use reader::line_end_from;
+use reader::number_between;
 use fields::Got;
-use fields::first;
-use fields::line_end;
-use fields::number_between;
 use places::passing;
 use steps::Read;
 use steps::end_line;
@@ -55,7 +55,7 @@ fn counts(s: &[u8], at: usize) -> LineOne
             let i = number_between(s, q, 1, Sheet::DEFS);
             match i {
                 Got::Value(n, r) => {
-                    let l = line_end(s, r);
+                    let l = line_end_from(s, r);
                     match l {
                         Got::Value(_, e) => LineOne::Counts(k, n, e),
                         Got::Bad(m, p) => LineOne::Bad(m, p),
@@ -72,7 +72,7 @@ fn counts(s: &[u8], at: usize) -> LineOne
 pub fn line_one(s: &[u8]) -> LineOne
     ensures { λ r. ⌜ r ≡ lineOneAt (now (s .entry)) ⌝ }
 {
-    let g = first(s, 0);
+    let g = first_from(s, 0);
     match g {
         Got::Value(w, p) => {
             if w == BITML {

@@ -8,7 +8,7 @@ use Rattle.fields.specs.declared.Got.{Got}
 use Rattle.fields.specs.declared.Got.the-variants as got
 use Rattle.tables.specs.Entries.{held, people, tableLong}
 use Rattle.lines.specs.Sheet.{readSheet, answered}
-use Rattle.reader.specs.Promises.{Sizes}
+use Rattle.reading.specs.Promises.{Sizes}
 use Rattle.promises.proofs.Promised.{promised}
 use Rattle.promises.specs.Texts.{Promised}
 use Rattle.replies.specs.declared.Reply.{Reply}

@@ -7,8 +7,8 @@ use lib.ListN.{length, getD, take, drop, replicate, length-append, length-drop, 
 use lib.Seq.{length-take-le, getD-take, take-take, take-add, take-at, drop-at, take-append-le, take-length, drop-drop}
 use Rattle.tables.specs.Entries.{Entries, firstOf, nodeIn, branchIn, defIn, listedIn, cellIn, held, people, tableLong}
 use Rattle.tables.proofs.Laws.{firstOf-length}
-use Rattle.reader.specs.Promises.{Sizes}
-use Rattle.reader.proofs.Sizes.{sizes-within}
+use Rattle.reading.specs.Promises.{Sizes}
+use Rattle.reading.proofs.Sizes.{sizes-within}
 use Rattle.exits.specs.Made.{filled}
 use Rattle.exits.proofs.Buffer.{filled-none}
 use Rattle.loading.proofs.Sections.{Section, flat-long, part-is, holds, nodes-section, branches-section, defs-section, numbers-part, numbers-held}

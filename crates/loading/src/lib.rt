@@ -12,7 +12,7 @@ ghost use mathlib.Core.List.{_++_};
 ghost use Prim.Native.Nat.{_-_, _≤_};
 ghost use lib.ListN.{length, take, drop, replicate};
 ghost use Rattle.tables.specs.Entries.{held, people, tableLong};
-ghost use Rattle.reader.specs.Promises.{Sizes};
+ghost use Rattle.reading.specs.Promises.{Sizes};
 ghost use Rattle.loading.specs.Table.{tableOf};
 ghost use Rattle.loading.specs.Loading.{refusedAt, loading, replyTo, cellsOf};
 

@@ -8,7 +8,7 @@ use lib.Seq.{length-take-le}
 use Rattle.fields.proofs.Words.{Bytes}
 use Rattle.tables.specs.Entries.{Entries}
 use Rattle.lines.specs.Sheet.{accepted, readSheet}
-use Rattle.reader.specs.Request.{request, make, makeAll, readRequest}
+use Rattle.reading.specs.Request.{request, make, makeAll, readRequest}
 use Rattle.promises.proofs.LastLine.{AllLast, all-last}
 use Rattle.writing.proofs.Alone.{reads-back}
 use Rattle.writing.proofs.Requests.{make-reads, make-short}

@@ -14,8 +14,8 @@ use Rattle.bitml.proofs.Lists.{all-of, up-mem, gather-cong, gather-map}
 use Rattle.bitml.proofs.Counting.{gather-split}
 use Rattle.tables.specs.Entries.{Entries}
 use Rattle.tables.specs.SheetOf.{sheetOf}
-use Rattle.reader.specs.Promises.{Promises}
-use Rattle.reader.specs.Request.{request, make, makeAll, readRequest}
+use Rattle.reading.specs.Promises.{Promises}
+use Rattle.reading.specs.Request.{request, make, makeAll, readRequest}
 use Rattle.promises.specs.Texts.{PromisedWhole}
 use Rattle.promises.proofs.Whole.{promised-whole}
 use Rattle.texts.specs.Text.{linesText}

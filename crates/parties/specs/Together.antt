@@ -7,7 +7,7 @@ use Rattle.bitml.specs.Lists.{gather, below}
 use Rattle.bitml.specs.Rows.{Row}
 use Rattle.bitml.specs.Answers.{Line, refusedLine, Answer, refused, printed, padded}
 use Rattle.tables.specs.Entries.{Entries}
-use Rattle.reader.specs.Request.{request, make, makeAll, readRequest}
+use Rattle.reading.specs.Request.{request, make, makeAll, readRequest}
 use Rattle.lent.specs.Structs.{noRow}
 use Rattle.writing.specs.Back.{Text}
 use Rattle.checker.specs.Entry.{placesOfAll, answerTo, placesOf, textIn}

@@ -8,7 +8,7 @@ use Rattle.fields.specs.Field.{fieldLen, textAt, endAt, allDigits, digitsOn, di
 use Rattle.requests.specs.Part.{valueAt, pastOf, pastValueAt}
 use Rattle.events.specs.Events.{pairAt, afterPair, lastPairAt, waitAt, signAt, tellAt, fireAt, valuesFrom, valuesAt, renewAt, eventAt, nextOf}
 use Rattle.texts.specs.Text.{letters}
-use Rattle.plays.specs.Values.{valueOf, behind, valuesOf}
+use Rattle.ledger.specs.Values.{valueOf, behind, valuesOf}
 use Rattle.plays.specs.Events.{eventOf, eventsUpTo, eventsOf}
 
 pub events : eventsOf (letters "play,x\nwait,499\nfire,0,1\nwait,1\nfire,0,1\n") 2 7 ≡ wait 499 ∷ fire 0 1 ∷ wait 1 ∷ fire 0 1 ∷ []

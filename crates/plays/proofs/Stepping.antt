@@ -5,11 +5,10 @@ use native.Mathlib.Omega.{arith}
 use native.Mathlib.Numerals.{add-one}
 use mathlib.Core.List.{List}
 use lib.ListN.{length, getD, take, drop}
-use Rattle.bitml.specs.Ledger.{Event, wait, sign, tell, fire, renew}
 use Rattle.bitml.specs.Limits.{limitedRefusal}
 use Rattle.bitml.specs.Answers.{endLine, eventLine, endOf}
 use Rattle.sheets.specs.Ready.{Ready}
-use Rattle.ledger.proofs.Ending.{end-is}
+use Rattle.counts.proofs.Ending.{end-is}
 use Rattle.fields.specs.declared.Got.{Got}
 use Rattle.fields.specs.declared.Got.the-variants.{Value, Bad}
 use Rattle.fields.proofs.Ranges.{never}
@@ -23,17 +22,15 @@ use Rattle.events.specs.declared.Lines.the-variants as lines
 use Rattle.events.proofs.Sound.{Sound, event-sound}
 use Rattle.pages.specs.Pages.{cellsLong, size, start, pagesIn, lives, payments}
 use Rattle.pages.proofs.Laws.{page-first}
-use Rattle.ledger.specs.declared.Ledger.{Ledger}
-use Rattle.ledger.specs.Book.{Book, book}
-use Rattle.ledger.specs.View.{view, liveOf}
-use Rattle.ledger.specs.Fit.{Fit}
-use Rattle.ledger.specs.Does.{Does, renewal}
+use Rattle.counts.specs.declared.Counts.{Counts}
+use Rattle.counts.specs.Book.{Book, book}
+use Rattle.counts.specs.View.{view, liveOf}
+use Rattle.counts.specs.Fit.{Fit}
+use Rattle.counts.specs.Does.{Does}
 use Rattle.texts.specs.Text.{lineText}
 use Rattle.texts.specs.Wrote.{Wrote}
 use Rattle.texts.proofs.Coming.{Coming, coming-all}
-use Rattle.plays.specs.Values.{Valued}
 use Rattle.plays.specs.Events.{eventOf, eventsOf}
-use Rattle.plays.proofs.Reading.{values-are}
 use Rattle.plays.proofs.Events.{events-none, next-read, event-read, events-more, events-good, line-within, line-long}
 use Rattle.plays.proofs.Playing.{answer-most, playText, coming-more, coming-end}
 
@@ -64,42 +61,10 @@ module _ (s : List ℕ) (people at : ℕ) (x : read.Event) (l : EventLine s peop
   pub no-event : {Q : Type 0} (n p : ℕ) → x ≡ line.Bad n p → Q
   no-event n p h = absurd (event-read s people at (l .more) (l .good) x (l .read) n p h)
 
--- the same ledger with the same cells
-pub same-book : {l m : Ledger} {C D : List ℕ} → l ≡ m → C ≡ D → book l (pagesIn C) ≡ book m (pagesIn D)
-same-book e h = ap₂ (λ l C. book l (pagesIn C)) e h
-
 -- the event x has made of the ledger l the ledger m, and its line ends at q
 pub record Moved (s t : List ℕ) (l : Book) (x : read.Event) (m : Book) (q : ℕ) : Type 0 where
   pub does : Does t l (eventOf s x) m
   pub next : (w z : ℕ) → nextOf x ≡ Value w z → q ≡ z
-
-module _ (s t : List ℕ) (l : Book) (x : read.Event) (m : Book) (q : ℕ) where
-  moved-by : (y : read.Event) (e : Event) (r : Book) (f : ℕ) → x ≡ y → eventOf s y ≡ e → nextOf y ≡ Value 0 f → Does t l e r → m ≡ r → q ≡ f → Moved s t l x m q
-  moved-by y e r f h k n d a b =
-      record {
-        does = subst (λ p. Does t l p m) (sym (ap (eventOf s) h ∙ k)) (subst (λ p. Does t l e p) (sym a) d);
-        next = λ w z g. b ∙ (let c : Value 0 f ≡ Value w z = sym (ap nextOf h ∙ n) ∙ g in let i : f ≡ z = cc in i);
-      }
-
-  pub moved-wait : (d f : ℕ) (r : Book) → x ≡ line.Wait d f → Does t l (wait d) r → m ≡ r → q ≡ f → Moved s t l x m q
-  unfolding eventOf nextOf
-  moved-wait d f r h = moved-by (line.Wait d f) (wait d) r f h refl refl
-
-  pub moved-sign : (p c b f : ℕ) (r : Book) → x ≡ line.Sign p c b f → Does t l (sign p c b) r → m ≡ r → q ≡ f → Moved s t l x m q
-  unfolding eventOf nextOf
-  moved-sign p c b f r h = moved-by (line.Sign p c b f) (sign p c b) r f h refl refl
-
-  pub moved-tell : (i j f : ℕ) (r : Book) → x ≡ line.Tell i j f → Does t l (tell i j) r → m ≡ r → q ≡ f → Moved s t l x m q
-  unfolding eventOf nextOf
-  moved-tell i j f r h = moved-by (line.Tell i j f) (tell i j) r f h refl refl
-
-  pub moved-fire : (c b f : ℕ) (r : Book) → x ≡ line.Fire c b f → Does t l (fire c b) r → m ≡ r → q ≡ f → Moved s t l x m q
-  unfolding eventOf nextOf
-  moved-fire c b f r h = moved-by (line.Fire c b f) (fire c b) r f h refl refl
-
-  pub moved-renew : (c b v n f : ℕ) (r : Book) {u₀ u : List ℕ} → x ≡ line.Renew c b v n f → Valued s v n u₀ u → Does t l (renewal c b (take n u)) r → m ≡ r → q ≡ f → Moved s t l x m q
-  unfolding eventOf nextOf
-  moved-renew c b v n f r {u = u} h k = moved-by (line.Renew c b v n f) (renewal c b (take n u)) r f h (ap (λ vs. renew c b vs) (sym (values-are k))) refl
 
 zero-first : (x : read.Event) (w z : ℕ) → nextOf x ≡ Value w z → nextOf x ≡ Value 0 z
 unfolding nextOf
@@ -146,9 +111,6 @@ module _ (s t : List ℕ) (from first : ℕ) (text₀ : List ℕ) (l₀ : Book) 
         w
 
     module _ (more : at < length s) (x : read.Event) (rd : x ≡ eventAt s (people t) at) where
-      pub goes-line : EventLine s (people t) at x
-      goes-line = record { more = more; good = g .good; read = rd }
-
       -- the line's end: what `next` says of a line that can be read
       behind-is : (q : ℕ) → ((w z : ℕ) → nextOf x ≡ Value w z → q ≡ z) → nextOf x ≡ Value 0 q
       behind-is q f = go (nextOf x) refl
@@ -158,9 +120,6 @@ module _ (s t : List ℕ) (from first : ℕ) (text₀ : List ℕ) (l₀ : Book) 
           go (Bad n p) h = absurd (next-read s (people t) at more (g .good) x rd n p h)
 
       module _ (m : Book) (q : ℕ) (mv : Moved s t l x m q) where
-        pub goes-ahead : at < q
-        goes-ahead = line-within s (people t) at more (g .good) x rd 0 q (behind-is q (mv .next)) .0
-
         pub goes-more : Bytes s → length s ≤ 65536 → first ≤ 100 → (v : List ℕ) (c : ℕ)
             → Wrote text e (lineText (eventLine line (m .answer))) v c → Goes s t from first text₀ l₀ v m q (line + 1) c
         goes-more b few low v c w =
@@ -192,7 +151,7 @@ module _ (s t : List ℕ) (from first : ℕ) (text₀ : List ℕ) (l₀ : Book) 
 
 -- ---- the last line
 
-pub wrote-end-of : (t : List ℕ) (l : Ledger) (C : List ℕ) → Ready t → cellsLong ≤ length C → (k n : ℕ) → k ≡ people t → n ≡ liveOf (pagesIn C lives) (l .made) → {u v : List ℕ} {a b : ℕ}
+pub wrote-end-of : (t : List ℕ) (l : Counts) (C : List ℕ) → Ready t → cellsLong ≤ length C → (k n : ℕ) → k ≡ people t → n ≡ liveOf (pagesIn C lives) (l .made) → {u v : List ℕ} {a b : ℕ}
     → Wrote u a (lineText (endLine (l .time) n (take (1600 + k - 1600) (drop 1600 C)))) v b → Wrote u a (lineText (endOf (view (people t) (book l (pagesIn C))))) v b
 unfolding size start
 wrote-end-of t l C ok h k n hk hn {u} {v} {a} {b} w =

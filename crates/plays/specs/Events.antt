@@ -9,7 +9,7 @@ use Rattle.fields.specs.Field.{whenRead}
 use Rattle.events.specs.Events.{eventAt, nextOf}
 use Rattle.events.specs.declared.Event as read
 use Rattle.events.specs.declared.Event.the-variants as line
-use Rattle.plays.specs.Values.{valuesOf}
+use Rattle.ledger.specs.Values.{valuesOf}
 
 -- "`wait`,d"; "`sign`,p,c,b"; "`tell`,i,j"; "`fire`,c,b"; "`renew`,c,b, up to 8 values". A refusal is no event
 unfoldable pub eventOf : List ℕ → read.Event → Event

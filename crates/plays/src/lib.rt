@@ -1,28 +1,26 @@
-// `play`: the values of secrets, and the events on the program's ledger, each with its answer.
+// `play`: the events on the program's ledger, each with its answer.
+use counts::Counts;
+use counts::live;
 use events::Event;
 use events::event_at;
 use exits::clear as clear_numbers;
 use ledger::Ledger;
-use ledger::live;
 use pages::CELLS;
 use pages::PAID;
 use replies::Reply;
 use replies::answered;
-use requests::Commitment;
-use requests::value_at;
 use sheets::INDEX;
-use sheets::def_secrets;
 use sheets::def_total;
 use sheets::index;
 use sheets::people;
-use tables::Sheet;
 use texts::clear;
 use texts::put_answer;
 use texts::put_end;
 ghost use mathlib.Core.Path.{_≡_};
 ghost use Prim.Native.Nat.{_+_, _≤_};
-ghost use lib.ListN.{length};
-ghost use Rattle.bitml.specs.Answers.{playing, endOf, playLines, answer};
+ghost use lib.ListN.{length, replicate};
+ghost use Rattle.bitml.specs.Ledger.{stipulated};
+ghost use Rattle.bitml.specs.Answers.{eventLine, playing, endOf, playLines, answer};
 ghost use Rattle.tables.specs.Entries.{held, people};
 ghost use Rattle.tables.specs.SheetOf.{sheetIn, defEntryAt};
 ghost use Rattle.events.specs.Events.{eventsAt};
@@ -30,52 +28,147 @@ ghost use Rattle.events.specs.declared.Lines.the-variants.{Good};
 ghost use Rattle.promises.specs.Parts.{PlayPromise};
 ghost use Rattle.sheets.specs.Ready.{Ready, Indexed};
 ghost use Rattle.pages.specs.Pages.{cellsLong, pagesIn};
-ghost use Rattle.ledger.specs.Book.{book};
-ghost use Rattle.ledger.specs.View.{view};
-ghost use Rattle.ledger.specs.Fit.{Fit};
+ghost use Rattle.counts.specs.Book.{book};
+ghost use Rattle.counts.specs.View.{view};
+ghost use Rattle.counts.specs.Fit.{Fit};
+ghost use Rattle.ledger.specs.Values.{valuesOf};
+ghost use Rattle.ledger.specs.Hands.{Holds, Hands};
 ghost use Rattle.texts.specs.Text.{lineText, linesText};
 ghost use Rattle.texts.specs.Wrote.{Wrote};
 ghost use Rattle.replies.specs.Answer.{Gives, leastText};
-ghost use Rattle.plays.specs.Values.{valuesOf, Valued, Read};
 ghost use Rattle.plays.specs.Events.{eventsOf};
+ghost use Rattle.plays.specs.Turns.{eventIn, InRange, Due, Noted};
 
-// A value as one number, 0 for `x`, else one more than it; and the position after its field.
-pub struct Value {
-    pub number: usize,
+// The kinds of events; and that none is left.
+const WAIT: usize = 0;
+
+const SIGN: usize = 1;
+
+const TELL: usize = 2;
+
+const FIRE: usize = 3;
+
+const RENEW: usize = 4;
+
+const NONE: usize = 5;
+
+// The event that is due: its kind, its numbers in their order (of a renewal contract, branch, where the values stand and how many), where its line ends; and for its answer the number of its line in the request and where the text ends.
+pub struct Turn {
+    pub kind: usize,
+    pub a: usize,
+    pub b: usize,
+    pub c: usize,
+    pub n: usize,
     pub next: usize,
+    pub line: usize,
+    pub end: usize,
 }
 
-fn one_value(s: &[u8], at: usize) -> Value
-    ensures { λ r. ⌜ Read (now (s .entry)) at r ⌝ }
+// The event whose line starts at `at`.
+fn due_at(s: &[u8], at: usize, t: &[usize], line: usize, end: usize) -> Turn
+    requires { ⌜ Ready (now t) × (at ≤ length (now s)) × (eventsAt (now s) (people (now t)) at ≡ Good) ⌝ }
+    ensures { λ r. ⌜ Due (now (s .entry)) (now (t .entry)) at line end r ⌝ }
 {
-    let c = value_at(s, at);
-    match c {
-        Commitment::Number(v, e) => Value {
-            number: v + 1,
-            next: e,
+    let none = Turn {
+        kind: NONE,
+        a: 0,
+        b: 0,
+        c: 0,
+        n: 0,
+        next: at,
+        line,
+        end,
+    };
+    if s.len() <= at {
+        return none;
+    }
+    let v = event_at(s, at, people(t));
+    match v {
+        Event::Wait(d, next) => Turn {
+            kind: WAIT,
+            a: d,
+            b: 0,
+            c: 0,
+            n: 0,
+            next,
+            line,
+            end,
         },
-        Commitment::Ill(e) => Value { number: 0, next: e },
-        Commitment::Bad(_, p) => Value { number: 0, next: p },
+        Event::Sign(p, c, b, next) => Turn {
+            kind: SIGN,
+            a: p,
+            b: c,
+            c: b,
+            n: 0,
+            next,
+            line,
+            end,
+        },
+        Event::Tell(i, j, next) => Turn {
+            kind: TELL,
+            a: i,
+            b: j,
+            c: 0,
+            n: 0,
+            next,
+            line,
+            end,
+        },
+        Event::Fire(c, b, next) => Turn {
+            kind: FIRE,
+            a: c,
+            b,
+            c: 0,
+            n: 0,
+            next,
+            line,
+            end,
+        },
+        Event::Renew(c, b, values, n, next) => Turn {
+            kind: RENEW,
+            a: c,
+            b,
+            c: values,
+            n,
+            next,
+            line,
+            end,
+        },
+        Event::Bad(_, _) => none,
     }
 }
 
-// The n values from a position on, the one at `from` first.
-pub fn values(s: &[u8], from: usize, n: usize, out: &mut [usize])
-    requires { ⌜ n ≤ length (now out) ⌝ }
-    ensures { λ _. ⌜ Valued (now (s .entry)) from n (now (out .entry)) (now (out .exit)) ⌝ }
+// The answer to the event that was due is written, and the next one is due.
+fn note(d: Turn, l: Counts, s: &[u8], t: &[usize], text: &mut [u8]) -> Turn
+    requires { ⌜ Ready (now t) × (d .next ≤ length (now s)) × (eventsAt (now s) (people (now t)) (d .next) ≡ Good) × (d .line ≤ 99999) × (d .end + 80 ≤ length (now text)) ⌝ }
+    ensures { λ r. ⌜ Noted (now (s .entry)) (now (t .entry)) d (now (text .entry)) (l .answer) (now (text .exit)) r ⌝ }
 {
-    let mut at = from;
-    let mut i = 0;
-    while i < n {
-        let v = one_value(s, at);
-        out[i] = v.number;
-        at = v.next;
-        i += 1;
+    let e = put_answer(text, d.end, l.answer, d.line);
+    due_at(s, d.next, t, d.line + 1, e)
+}
+
+// The ledger after the event that is due.
+fn act<'a>(l: Ledger<'a>, t: &[usize], x: &[usize], s: &[u8], d: Turn) -> Ledger<'a>
+    requires { ⌜ Ready (now t) × Holds (now t) l × Indexed (held (now t)) (now x) × InRange (people (now t)) d ⌝ }
+    ensures { λ r. ⌜ Hands (now (t .entry)) (l .entry) (eventIn (now (s .entry)) d) r ⌝ }
+{
+    if d.kind == WAIT {
+        return l.wait(t, d.a);
     }
+    if d.kind == SIGN {
+        return l.sign(t, x, d.a, d.b, d.c);
+    }
+    if d.kind == TELL {
+        return l.tell(t, d.a, d.b);
+    }
+    if d.kind == FIRE {
+        return l.fire(t, x, d.a, d.b);
+    }
+    l.renew(t, x, s, d.a, d.b, d.c, d.n)
 }
 
 // The last line: time, live contracts, paid by participant.
-fn end(l: Ledger, at: usize, t: &[usize], cells: &[usize], text: &mut [u8]) -> usize
+fn end(l: Counts, at: usize, t: &[usize], cells: &[usize], text: &mut [u8]) -> usize
     requires { ⌜ Ready (now t) ⌝ }
     requires { ⌜ Fit (now t) (book l (pagesIn (now cells))) ⌝ }
     requires { ⌜ (at + 400 ≤ length (now text)) × (cellsLong ≤ length (now cells)) ⌝ }
@@ -86,61 +179,27 @@ fn end(l: Ledger, at: usize, t: &[usize], cells: &[usize], text: &mut [u8]) -> u
     put_end(text, at, l.time, lives, &cells[PAID..PAID + k])
 }
 
-// All events whose lines start at `from`, the first of them in line `first` of the request, each with its answer; and the last line. The ledger goes from event to event.
+// A ledger goes from event to event: it begins with the values that stand in the request from `from` on, the events start at `to`, the first of them in line `first`; then comes the last line.
 fn play(
-    l: Ledger,
+    cells: &mut [usize],
+    text: &mut [u8],
     s: &[u8],
-    from: usize,
-    first: usize,
     t: &[usize],
     x: &[usize],
-    text: &mut [u8],
-    cells: &mut [usize],
+    from: usize,
+    to: usize,
+    first: usize,
 ) -> usize
-    requires { ⌜ Ready (now t) ⌝ }
-    requires { ⌜ Indexed (held (now t)) (now x) ⌝ }
-    requires { ⌜ Fit (now t) (book l (pagesIn (now cells))) ⌝ }
-    requires { ⌜ (length (now s) ≤ 65536) × (from ≤ length (now s)) × (first ≤ 100) × (leastText ≤ length (now text)) ⌝ }
-    requires { ⌜ eventsAt (now s) (people (now t)) from ≡ Good ⌝ }
-    requires { ⌜ cellsLong ≤ length (now cells) ⌝ }
-    ensures { λ r. ⌜ Wrote (now (text .entry)) 0 (linesText (playLines (sheetIn (now (t .entry))) (view (people (now (t .entry))) (book l (pagesIn (now (cells .entry))))) first (eventsOf (now (s .entry)) (people (now (t .entry))) from))) (now (text .exit)) r ⌝ }
+    requires { ⌜ Ready (now t) × Indexed (held (now t)) (now x) × (now cells ≡ replicate cellsLong 0) × (length (now s) ≤ 65536) × (to ≤ length (now s)) × (first ≤ 100) × (leastText ≤ length (now text)) × (eventsAt (now s) (people (now t)) to ≡ Good) ⌝ }
+    ensures { λ r. ⌜ Wrote (now (text .entry)) 0 (linesText (playLines (sheetIn (now (t .entry))) (stipulated (sheetIn (now (t .entry))) (valuesOf (now (s .entry)) from (defEntryAt (held (now (t .entry))) 0 .secrets))) first (eventsOf (now (s .entry)) (people (now (t .entry))) to))) (now (text .exit)) r ⌝ }
 {
-    let k = people(t);
-    let mut now = l;
-    let mut at = from;
-    let mut line = first;
-    let mut e = 0;
-    while at < s.len() {
-        let v = event_at(s, at, k);
-        match v {
-            Event::Wait(d, next) => {
-                now = now.wait(t, d, cells);
-                at = next;
-            }
-            Event::Sign(p, c, b, next) => {
-                now = now.sign(t, x, p, c, b, cells);
-                at = next;
-            }
-            Event::Tell(i, j, next) => {
-                now = now.tell(t, i, j, cells);
-                at = next;
-            }
-            Event::Fire(c, b, next) => {
-                now = now.fire(t, x, c, b, cells);
-                at = next;
-            }
-            Event::Renew(c, b, values_at, n, next) => {
-                let mut vs = [0usize; Sheet::SECRETS];
-                values(s, values_at, n, &mut vs);
-                now = now.renew(t, x, c, b, &vs[..n], cells);
-                at = next;
-            }
-            Event::Bad(_, _) => return e,
-        }
-        e = put_answer(text, e, now.answer, line);
-        line += 1;
+    let mut now = Ledger::new(cells, t, s, from);
+    let mut due = due_at(s, to, t, first, 0);
+    while due.kind < NONE {
+        now = act(now, t, x, s, due);
+        due = note(due, now.counts, s, t, text);
     }
-    end(now, e, t, cells, text)
+    end(now.counts, due.end, t, now.cells, text)
 }
 
 // `play` of a sheet that stands in the table: its values start at `from`, its events at `to`.
@@ -161,12 +220,8 @@ pub fn play_for(
     index(t, &mut x);
     clear_numbers(rows);
     clear(text);
-    let n = def_secrets(t, 0);
-    let mut vs = [0usize; Sheet::SECRETS];
-    values(s, from, n, &mut vs);
     let mut cells = [0usize; CELLS];
-    let l = Ledger::new(t, &vs[..n], &mut cells);
     let defs = def_total(t);
-    let e = play(l, s, to, defs + 3, t, &x, text, &mut cells);
+    let e = play(&mut cells, text, s, t, &x, from, to, defs + 3);
     answered(e)
 }

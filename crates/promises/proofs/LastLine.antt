@@ -24,7 +24,7 @@ use Rattle.requests.specs.Part.{participantAt, lastParticipantAt, pastValuesAt,
 use Rattle.events.specs.declared.Lines.{Lines}
 use Rattle.events.specs.declared.Lines.the-variants as lines
 use Rattle.events.specs.Events.{eventsAt}
-use Rattle.reader.specs.Request.{make, makeAll, why, check, play, Reading, request, refused, refusedAt, fromRows, fromLines, fromPart, fromSheet, readRequest}
+use Rattle.reading.specs.Request.{make, makeAll, why, check, play, Reading, request, refused, refusedAt, fromRows, fromLines, fromPart, fromSheet, readRequest}
 
 -- ---- a word
 

@@ -3,7 +3,7 @@ use Prim.Native.Nat.{ℕ, _<_}
 use native.Mathlib.Omega.{arith}
 use lib.ListN.{length}
 use Rattle.tables.specs.Entries.{Entries}
-use Rattle.reader.specs.Promises.{NodePromise, BranchPromise, DefPromise, Promises}
+use Rattle.reading.specs.Promises.{NodePromise, BranchPromise, DefPromise, Promises}
 use Rattle.ranges.specs.Ranged.{Ranged}
 use Rattle.ranges.proofs.Reading.{sheet-ranged}
 use Rattle.trees.specs.Shaped.{Shaped}

@@ -20,7 +20,7 @@ use Rattle.requests.specs.Part.{lastPartAt}
 use Rattle.events.specs.declared.Lines.{Lines}
 use Rattle.events.specs.declared.Lines.the-variants as lines
 use Rattle.events.specs.Events.{eventsAt}
-use Rattle.reader.specs.Request.{Reading, request, refused, refusedAt, fromRows, fromLines, fromPart, fromSheet, readRequest}
+use Rattle.reading.specs.Request.{Reading, request, refused, refusedAt, fromRows, fromLines, fromPart, fromSheet, readRequest}
 use Rattle.promises.specs.Refusals.{ReadNumber, WhileReading, OfReadings}
 use Rattle.promises.proofs.Told as told
 use Rattle.promises.proofs.Told.{FieldTold, cond-told}

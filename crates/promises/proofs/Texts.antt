@@ -5,7 +5,7 @@ use Rattle.bitml.specs.Promises.{WellFormed}
 use Rattle.bitml.specs.Liquidity.{Liquidity}
 use Rattle.bitml.proofs.Demands.{demands}
 use Rattle.tables.specs.SheetOf.{sheetOf}
-use Rattle.reader.proofs.Formed.{well-formed}
+use Rattle.reading.proofs.Formed.{well-formed}
 use Rattle.promises.specs.Texts.{Promised, OfSheet, OfTexts}
 use Rattle.promises.proofs.Promised.{promised}
 

@@ -16,8 +16,8 @@ use Rattle.requests.proofs.Sound.{PartSound, part-sound, rows-fit}
 use Rattle.events.specs.declared.Lines.{Lines}
 use Rattle.events.specs.declared.Lines.the-variants as lines
 use Rattle.events.specs.Events.{eventsAt}
-use Rattle.reader.specs.Promises.{Promises}
-use Rattle.reader.specs.Request.{Reading, LastPart, request, refused, refusedAt, fromRows, fromLines, fromPart, fromSheet, readRequest}
+use Rattle.reading.specs.Promises.{Promises}
+use Rattle.reading.specs.Request.{Reading, LastPart, request, refused, refusedAt, fromRows, fromLines, fromPart, fromSheet, readRequest}
 use Rattle.ranges.proofs.Reading.{sheet-paid}
 use Rattle.promises.specs.Parts.{RowsPromise, PlayPromise, PartPromise}
 use Rattle.promises.specs.Texts.{Promised, PromisedWhole}

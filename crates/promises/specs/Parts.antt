@@ -11,7 +11,7 @@ use Rattle.requests.specs.Part.{pastValuesAt}
 use Rattle.requests.specs.Rows.{RowFits, row, mostRows}
 use Rattle.events.specs.declared.Lines.the-variants as lines
 use Rattle.events.specs.Events.{eventsAt}
-use Rattle.reader.specs.Request.{LastPart, make, makeAll, why, check, play}
+use Rattle.reading.specs.Request.{LastPart, make, makeAll, why, check, play}
 
 -- "up to 512 lines `row`,node,branch,rank (1 to 65,535)", of nodes and branches that there are
 pub record RowsPromise (E : Entries) (R : List Row) : Type 0 where

@@ -7,7 +7,7 @@ use Rattle.bitml.specs.Lists.{All}
 use Rattle.bitml.specs.Sheet.{Sheet}
 use Rattle.bitml.specs.Ledger.{Ledger, Event, wait, sign, tell, fire, renew}
 use Rattle.bitml.specs.Limits.{limitedRefusal, answers}
-use Rattle.reader.specs.Request.{refused, readRequest}
+use Rattle.reading.specs.Request.{refused, readRequest}
 
 -- ---- while a request is read
 

@@ -14,8 +14,8 @@ use Rattle.bitml.specs.Demands.{Frozen}
 use Rattle.tables.specs.Entries.{Entries}
 use Rattle.tables.specs.SheetOf.{sheetOf}
 use Rattle.lines.specs.Sheet.{accepted, readSheet}
-use Rattle.reader.specs.Promises.{Promises}
-use Rattle.reader.specs.Request.{request, LastPart, readRequest}
+use Rattle.reading.specs.Promises.{Promises}
+use Rattle.reading.specs.Request.{request, LastPart, readRequest}
 use Rattle.promises.specs.Parts.{PartPromise}
 
 -- "The judging part knows a sheet only by what the reader promises": every sheet that is read keeps all promises

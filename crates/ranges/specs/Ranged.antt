@@ -6,7 +6,7 @@ use lib.ListN.{length, getD}
 use Rattle.bitml.specs.Lists.{sum, below}
 use Rattle.tables.specs.Entries.{NodeEntry, BranchEntry, Entries}
 use Rattle.tables.specs.SheetOf.{nodeEntryAt, branchEntryAt, defEntryAt, cellAt}
-use Rattle.reader.specs.Promises.{Sizes}
+use Rattle.reading.specs.Promises.{Sizes}
 
 -- "Numbers of participants, definitions, secrets .. count from 0": n numbers are listed from `first` on, each the number of one of m
 pub record Below (m : ℕ) (listed : List ℕ) (first n : ℕ) : Type 0 where

@@ -1,103 +1,120 @@
-// The whole request, read before anything is judged; and what is promised of a sheet that was read.
-use events::Lines;
-use events::events;
-use fields::Got;
-use lines::sheet;
-use places::place_of;
-use requests::Part;
-use requests::last_part;
-use requests::rows;
-use tables::Sheet;
+// A reader that goes field by field over the whole request: it holds the request and a position. Every field of a request is read through it; the work on bytes is done by `fields`.
 ghost use mathlib.Core.Path.{_≡_};
-ghost use mathlib.Core.List.{List};
-ghost use Prim.Native.Nat.{ℕ, _≤_};
-ghost use lib.ListN.{length, getD};
-ghost use Rattle.tables.specs.Entries.{held, people, cellsFrom, Spacious};
-ghost use Rattle.lines.specs.Sheet.{Sized, accepted};
-ghost use Rattle.requests.specs.declared.Part.the-variants as part;
-ghost use Rattle.reader.specs.Request.{refusedAt, fromPart, fromSheet, readRequest, answered};
+ghost use Rattle.fields.specs.Field.{anyAt, numberAt, belowAt, betweenAt, wordAt, firstAt, lineEndAt};
+use fields::Got;
+use fields::first;
+use fields::line_end;
+use fields::number;
+use fields::word;
 
-// A request: the last part of one whose sheet stands in the table, or its refusal.
-pub enum Request {
-    // The participant.
-    Make(usize),
-    MakeAll,
-    // The participant.
-    Why(usize),
-    // The participant, and how many rows stand in the buffer.
-    Check(usize, usize),
-    // Where the values start, and where the events do.
-    Play(usize, usize),
-    // Number, line and field.
-    Refused(usize, usize, usize),
+// The largest number of 19 digits, which is all that a number has at most.
+const ANY: usize = 9999999999999999999;
+
+pub struct Reader<'a> {
+    pub request: &'a [u8],
+    pub at: usize,
 }
 
-// A refusal, before whose field a position stands.
-fn refuse(s: &[u8], n: usize, at: usize) -> Request
-    requires { ⌜ length (now s) ≤ 65536 ⌝ }
-    ensures { λ r. ⌜ ((t u : List ℕ) → answered r t u ≡ refusedAt (now (s .entry)) n at) ⌝ }
-{
-    let p = place_of(s, at);
-    Request::Refused(n, p.line, p.field)
-}
+impl<'a> Reader<'a> {
+    // The field that is due, as a number.
+    pub fn number(self) -> Got
+        ensures { λ r. ⌜ r ≡ anyAt (now (self .entry .request)) (self .entry .at) ⌝ }
+    {
+        number(self.request, self.at)
+    }
 
-// The rows of `check`, which start at `from`.
-fn check_part(s: &[u8], p: usize, from: usize, t: &[usize], buffer: &mut [usize]) -> Request
-    requires { ⌜ length (now s) ≤ 65536 ⌝ }
-    requires { ⌜ (cellsFrom ≤ length (now t)) × (getD (now t) 2 0 ≤ 512) ⌝ }
-    requires { ⌜ 1536 ≤ length (now buffer) ⌝ }
-    ensures { λ r. ⌜ answered r (now (t .entry)) (now (buffer .exit)) ≡ fromPart (now (s .entry)) (people (now (t .entry))) (held (now (t .entry))) (part.Check p from) ⌝ }
-{
-    let nodes = t[Sheet::NODES_CELL];
-    let g = rows(s, from, t, nodes, buffer);
-    match g {
-        Got::Value(n, _) => Request::Check(p, n),
-        Got::Bad(n, q) => refuse(s, n, q),
+    // The field that is due, as a word.
+    pub fn word(self) -> Got
+        ensures { λ r. ⌜ r ≡ wordAt (now (self .entry .request)) (self .entry .at) ⌝ }
+    {
+        word(self.request, self.at)
+    }
+
+    // A line's first field, as a word.
+    pub fn first(self) -> Got
+        ensures { λ r. ⌜ r ≡ firstAt (now (self .entry .request)) (self .entry .at) ⌝ }
+    {
+        first(self.request, self.at)
+    }
+
+    // The LF that is due.
+    pub fn line_end(self) -> Got
+        ensures { λ r. ⌜ r ≡ lineEndAt (now (self .entry .request)) (self .entry .at) ⌝ }
+    {
+        line_end(self.request, self.at)
     }
 }
 
-// The event lines of `play` with k participants, which start at `from`, after the values.
-fn play_part(s: &[u8], values: usize, from: usize, k: usize) -> Request
-    requires { ⌜ length (now s) ≤ 65536 ⌝ }
-    ensures { λ r. ⌜ ((t u : List ℕ) → people t ≡ k → answered r t u ≡ fromPart (now (s .entry)) k (held t) (part.Play values from)) ⌝ }
+// The methods again, over plain parameters, so that a proof of a caller has no walk.
+
+// The field after a comma at `at`, as a number.
+pub fn number_from(request: &[u8], at: usize) -> Got
+    ensures { λ r. ⌜ r ≡ anyAt (now (request .entry)) at ⌝ }
 {
-    let l = events(s, from, k);
-    match l {
-        Lines::Good => Request::Play(values, from),
-        Lines::Bad(n, q) => refuse(s, n, q),
-    }
+    Reader { request, at }.number()
 }
 
-// The last part of a request whose sheet ends at `at` and stands in the table.
-fn after_sheet(s: &[u8], at: usize, t: &[usize], buffer: &mut [usize]) -> Request
-    requires { ⌜ length (now s) ≤ 65536 ⌝ }
-    requires { ⌜ (cellsFrom ≤ length (now t)) × Sized (now s) at (now t) ⌝ }
-    requires { ⌜ 1536 ≤ length (now buffer) ⌝ }
-    ensures { λ r. ⌜ answered r (now (t .entry)) (now (buffer .exit)) ≡ fromSheet (now (s .entry)) (accepted (people (now (t .entry))) at (held (now (t .entry)))) ⌝ }
+// The field after a comma at `at`, as a word.
+pub fn word_from(request: &[u8], at: usize) -> Got
+    ensures { λ r. ⌜ r ≡ wordAt (now (request .entry)) at ⌝ }
 {
-    let k = t[Sheet::PARTICIPANTS_CELL];
-    let secrets = t[Sheet::DEFS_AT + 2];
-    let o = last_part(s, at, k, secrets);
-    match o {
-        Part::Make(p) => Request::Make(p),
-        Part::MakeAll => Request::MakeAll,
-        Part::Why(p) => Request::Why(p),
-        Part::Check(p, from) => check_part(s, p, from, t, buffer),
-        Part::Play(values, from) => play_part(s, values, from, k),
-        Part::Bad(n, q) => refuse(s, n, q),
-    }
+    Reader { request, at }.word()
 }
 
-// The request's bytes, read: its sheet into the table, the rows of a `check` into the buffer, whatever they held.
-pub fn read(s: &[u8], t: &mut [usize], buffer: &mut [usize]) -> Request
-    requires { ⌜ length (now s) ≤ 65536 ⌝ }
-    requires { ⌜ Spacious (now s) (now t) ⌝ }
-    requires { ⌜ 1536 ≤ length (now buffer) ⌝ }
-    ensures { λ r. ⌜ answered r (now (t .exit)) (now (buffer .exit)) ≡ readRequest (now (s .entry)) ⌝ }
+// A line's first field, as a word.
+pub fn first_from(request: &[u8], at: usize) -> Got
+    ensures { λ r. ⌜ r ≡ firstAt (now (request .entry)) at ⌝ }
 {
-    let g = sheet(s, t);
-    match g {
-        Got::Value(_, at) => after_sheet(s, at, t, buffer),
-        Got::Bad(n, p) => refuse(s, n, p),
+    Reader { request, at }.first()
+}
+
+// The LF at `at`.
+pub fn line_end_from(request: &[u8], at: usize) -> Got
+    ensures { λ r. ⌜ r ≡ lineEndAt (now (request .entry)) at ⌝ }
+{
+    Reader { request, at }.line_end()
+}
+
+// Numbers of a range, above them.
+
+// The field after a comma at `at`, as a number up to max.
+pub fn number_up_to(request: &[u8], at: usize, max: usize) -> Got
+    ensures { λ r. ⌜ r ≡ numberAt (now (request .entry)) at max ⌝ }
+{
+    let g = number_from(request, at);
+    let Got::Value(v, e) = g else {
+        return g;
+    };
+    if v <= max {
+        return Got::Value(v, e);
     }
+    Got::Bad(4, at)
+}
+
+// The field after a comma at `at`, as the number of one of n things.
+pub fn number_below(request: &[u8], at: usize, n: usize) -> Got
+    ensures { λ r. ⌜ r ≡ belowAt (now (request .entry)) at n ⌝ }
+{
+    let g = number_up_to(request, at, ANY);
+    let Got::Value(v, e) = g else {
+        return g;
+    };
+    if v < n {
+        return Got::Value(v, e);
+    }
+    Got::Bad(6, at)
+}
+
+// The field after a comma at `at`, as a number from low to high.
+pub fn number_between(request: &[u8], at: usize, low: usize, high: usize) -> Got
+    ensures { λ r. ⌜ r ≡ betweenAt (now (request .entry)) at low high ⌝ }
+{
+    let g = number_up_to(request, at, high);
+    let Got::Value(v, e) = g else {
+        return g;
+    };
+    if v < low {
+        return Got::Bad(4, at);
+    }
+    Got::Value(v, e)
 }

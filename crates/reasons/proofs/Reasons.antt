@@ -22,7 +22,7 @@ use Rattle.bitml.proofs.Causes.{cause-bar}
 use Rattle.tables.specs.Entries.{held, people}
 use Rattle.tables.specs.SheetOf.{defEntryAt, branchCount, branchNumber, branchOf, sheetIn}
 use Rattle.tables.proofs.SheetOf.{root-is, nodes-are, count-of, branch-of}
-use Rattle.reader.proofs.Formed.{well-formed}
+use Rattle.reading.proofs.Formed.{well-formed}
 use Rattle.sheets.specs.Ready.{Ready}
 use Rattle.exits.specs.Made.{filled, answerOf, bufferOf}
 use Rattle.exits.specs.declared.Verdict.the-variants.{Liquid}

@@ -1,11 +1,11 @@
 // The last part of a request: `make`, `makeall`, `why`, `check` with its rows, `play` with its values.
+use reader::first_from;
+use reader::line_end_from;
+use reader::number_below;
+use reader::number_between;
+use reader::number_up_to;
+use reader::word_from;
 use fields::Got;
-use fields::first;
-use fields::line_end;
-use fields::number;
-use fields::number_below;
-use fields::number_between;
-use fields::word;
 use tables::Sheet;
 ghost use mathlib.Core.Path.{_≡_};
 ghost use mathlib.Core.List.{[], _∷_, _++_};
@@ -76,13 +76,13 @@ pub enum RowLine {
 pub fn value_at(s: &[u8], at: usize) -> Commitment
     ensures { λ r. ⌜ r ≡ valueAt (now (s .entry)) at ⌝ }
 {
-    let g = word(s, at);
+    let g = word_from(s, at);
     match g {
         Got::Value(w, e) => {
             if w == X {
                 return Commitment::Ill(e);
             }
-            let h = number(s, at, VALUE);
+            let h = number_up_to(s, at, VALUE);
             match h {
                 Got::Value(v, f) => Commitment::Number(v, f),
                 Got::Bad(m, p) => Commitment::Bad(m, p),
@@ -131,7 +131,7 @@ fn participant(s: &[u8], at: usize, people: usize) -> Got
     let Got::Value(p, e) = g else {
         return g;
     };
-    let h = line_end(s, e);
+    let h = line_end_from(s, e);
     let Got::Value(_, f) = h else {
         return h;
     };
@@ -167,7 +167,7 @@ fn make_part(s: &[u8], at: usize, people: usize) -> Part
 fn make_all_part(s: &[u8], at: usize) -> Part
     ensures { λ r. ⌜ r ≡ makeAllAt (now (s .entry)) at ⌝ }
 {
-    let g = line_end(s, at);
+    let g = line_end_from(s, at);
     match g {
         Got::Value(_, e) => {
             if e < s.len() {
@@ -208,7 +208,7 @@ fn play_part(s: &[u8], at: usize, secrets: usize) -> Part
     let g = past_values(s, at, secrets);
     match g {
         Got::Value(_, e) => {
-            let h = line_end(s, e);
+            let h = line_end_from(s, e);
             match h {
                 Got::Value(_, f) => Part::Play(at, f),
                 Got::Bad(m, q) => Part::Bad(m, q),
@@ -222,7 +222,7 @@ fn play_part(s: &[u8], at: usize, secrets: usize) -> Part
 pub fn last_part(s: &[u8], at: usize, people: usize, secrets: usize) -> Part
     ensures { λ r. ⌜ r ≡ lastPartAt (now (s .entry)) people secrets at ⌝ }
 {
-    let g = first(s, at);
+    let g = first_from(s, at);
     match g {
         Got::Value(w, e) => match w {
             MAKE => make_part(s, e, people),
@@ -263,7 +263,7 @@ fn row_numbers(s: &[u8], at: usize, t: &[usize], nodes: usize) -> RowLine
                     let i = number_between(s, f, 1, RANK);
                     match i {
                         Got::Value(k, q) => {
-                            let l = line_end(s, q);
+                            let l = line_end_from(s, q);
                             match l {
                                 Got::Value(_, z) => RowLine::Row(n, b, k, z),
                                 Got::Bad(m, p) => RowLine::Bad(m, p),
@@ -285,7 +285,7 @@ fn row_line(s: &[u8], at: usize, t: &[usize], nodes: usize) -> RowLine
     requires { ⌜ nodes ≤ 512 ⌝ }
     ensures { λ r. ⌜ r ≡ rowAt (now (s .entry)) (countIn (now (t .entry))) nodes at ⌝ }
 {
-    let g = first(s, at);
+    let g = first_from(s, at);
     match g {
         Got::Value(w, e) => {
             if w == ROW {
@@ -301,7 +301,7 @@ fn row_line(s: &[u8], at: usize, t: &[usize], nodes: usize) -> RowLine
 fn no_room(s: &[u8], at: usize) -> Got
     ensures { λ r. ⌜ r ≡ noRoomAt (now (s .entry)) at ⌝ }
 {
-    let g = first(s, at);
+    let g = first_from(s, at);
     let Got::Value(w, _) = g else {
         return g;
     };

@@ -16,8 +16,8 @@ use Rattle.bitml.proofs.Lists.{and-true, and-end, map-cong}
 use Rattle.tables.specs.Entries.{Entries, held, people}
 use Rattle.tables.specs.SheetOf.{branchEntryAt, defEntryAt, branchNumbers, branchNumber, branchCount, partNumbers, actionOf, branchOf, sheetOf, sheetIn}
 use Rattle.tables.proofs.SheetOf.{root-is, branches-are, count-of, branch-of, branch-small, next-renewal}
-use Rattle.reader.specs.Promises.{Promises}
-use Rattle.reader.proofs.Formed.{parts-are-nodes}
+use Rattle.reading.specs.Promises.{Promises}
+use Rattle.reading.proofs.Formed.{parts-are-nodes}
 use Rattle.requests.specs.Rows.{rowIn, rowsOf}
 use Rattle.sheets.specs.Ready.{Ready}
 use Rattle.rows.specs.Given.{RowsFit, Known, hasBy, nextBy, rankSum, faultBy, orderFault, answerOf}

@@ -14,7 +14,7 @@ use Rattle.fields.specs.declared.Got.{Got}
 use Rattle.fields.specs.declared.Got.the-variants.{Value, Bad}
 use Rattle.tables.specs.Entries.{Entries, held, people, tableLong, Within}
 use Rattle.lines.specs.Sheet.{readSheet, answered, whenAccepted}
-use Rattle.reader.proofs.Sizes.{sizes-within}
+use Rattle.reading.proofs.Sizes.{sizes-within}
 use Rattle.texts.specs.Text.{line}
 use Rattle.texts.specs.Wrote.{Wrote}
 use Rattle.replies.specs.declared.Reply.{Reply}

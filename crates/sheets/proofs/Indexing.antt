@@ -17,7 +17,7 @@ use Rattle.tables.specs.Entries.{Entries, held, people}
 use Rattle.tables.specs.SheetOf.{nodeEntryAt, branchEntryAt, branchNumbers, branchCount, branchNumber, partNumbers, partCount, partNumber}
 use Rattle.tables.proofs.SheetOf.{all-in}
 use Rattle.tables.proofs.Held.{node-held, branch-held}
-use Rattle.reader.proofs.Formed.{place-of, parent-small, argument-small}
+use Rattle.reading.proofs.Formed.{place-of, parent-small, argument-small}
 use Rattle.sheets.specs.Ready.{Ready, Indexed, namers, Named}
 
 module _ (E : Entries) (x : List ℕ) (w : Indexed E x) where

@@ -5,7 +5,7 @@ use lib.ListN.{length, drop}
 use Rattle.tables.specs.Entries.{Entries, held, people, cellsFrom}
 use Rattle.tables.specs.SheetOf.{nodeEntryAt, branchEntryAt}
 use Rattle.bucket.specs.Bucket.{Buckets, bucketOf}
-use Rattle.reader.specs.Promises.{Promises}
+use Rattle.reading.specs.Promises.{Promises}
 
 -- "The judging part knows a sheet only by what the reader promises". The table goes as far as the cells that it holds
 pub record Ready (t : List ℕ) : Type 0 where

@@ -1,9 +1,9 @@
 // How the sheet's reader goes on: a field is read, the position moves, and the counts of entries stay.
-use cursors::number_from;
+use reader::first_from;
+use reader::line_end_from;
+use reader::number_up_to;
+use reader::word_from;
 use fields::Got;
-use fields::first;
-use fields::line_end;
-use fields::word;
 use tables::St;
 ghost use mathlib.Core.Path.{_≡_};
 ghost use Rattle.fields.specs.Field.{numberAt, wordAt, firstAt, lineEndAt};
@@ -40,7 +40,7 @@ pub fn num(s: &[u8], st: St, max: usize) -> Read
     ensures { λ r. ⌜ r ≡ moved st (numberAt (now (s .entry)) (st .at) max) ⌝ }
 {
     let at = st.at;
-    let g = number_from(s, at, max);
+    let g = number_up_to(s, at, max);
     move_on(st, g)
 }
 
@@ -49,7 +49,7 @@ pub fn letters(s: &[u8], st: St) -> Read
     ensures { λ r. ⌜ r ≡ moved st (wordAt (now (s .entry)) (st .at)) ⌝ }
 {
     let at = st.at;
-    let g = word(s, at);
+    let g = word_from(s, at);
     move_on(st, g)
 }
 
@@ -58,7 +58,7 @@ pub fn first_word(s: &[u8], st: St) -> Read
     ensures { λ r. ⌜ r ≡ moved st (firstAt (now (s .entry)) (st .at)) ⌝ }
 {
     let at = st.at;
-    let g = first(s, at);
+    let g = first_from(s, at);
     move_on(st, g)
 }
 
@@ -67,6 +67,6 @@ pub fn end_line(s: &[u8], st: St) -> Read
     ensures { λ r. ⌜ r ≡ moved st (lineEndAt (now (s .entry)) (st .at)) ⌝ }
 {
     let at = st.at;
-    let g = line_end(s, at);
+    let g = line_end_from(s, at);
     move_on(st, g)
 }

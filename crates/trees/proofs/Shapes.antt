@@ -10,7 +10,7 @@ use borrow.Author.Tests.{lt-ltb, le-ltb}
 use Rattle.tables.specs.Entries.{DefEntry, Entries}
 use Rattle.tables.specs.SheetOf.{nodeEntryAt, branchEntryAt, defEntryAt, partCount}
 use Rattle.lines.specs.Sheet.{accepted, readSheet}
-use Rattle.reader.specs.Promises.{noParent, Inside, Nesting, over}
+use Rattle.reading.specs.Promises.{noParent, Inside, Nesting, over}
 use Rattle.trees.specs.Tree.{Contract, size, nodesIn, branchesIn}
 use Rattle.trees.specs.Listing.{DefTree}
 use Rattle.trees.specs.Shaped.{BranchShape, DefShape, Shaped}

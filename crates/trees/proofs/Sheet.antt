@@ -13,7 +13,7 @@ use Rattle.lines.specs.declared.LineOne.the-variants.{Counts, Bad}
 use Rattle.lines.specs.LineOne.{lineOneAt}
 use Rattle.lines.specs.Definition.{within, depositsAt, ownerAt, rootAt, ownedAt, defineAt, blank}
 use Rattle.lines.specs.Sheet.{beyond, limited, SheetRead, accepted, refused as turned, accept, sizes, sheetFrom, readSheet}
-use Rattle.reader.specs.Promises.{noParent}
+use Rattle.reading.specs.Promises.{noParent}
 use Rattle.trees.specs.Tree.{Weighed}
 use Rattle.trees.specs.Listing.{Listing, listingOf, addDef, writeContract, DefTree, define, defineAll, nothing}
 use Rattle.steps.proofs.Ends.{Ends, good, refused, ends-map, ends-go, ends-either, ends-then}

@@ -9,7 +9,7 @@ use Rattle.tables.specs.Entries.{NodeEntry, BranchEntry, DefEntry, Entries}
 use Rattle.tables.specs.State.{nodeEntry, branchEntry, defEntry}
 use Rattle.tables.specs.SheetOf.{nodeEntryAt, branchEntryAt, defEntryAt}
 use Rattle.contracts.specs.Contract.{action}
-use Rattle.reader.specs.Promises.{noParent}
+use Rattle.reading.specs.Promises.{noParent}
 use Rattle.trees.specs.Tree.{Kind, Tree, pay, renew, split, reveal, end, also, last, weigh, Contract, size, Weighed, nodesIn, branchesIn}
 use Rattle.trees.specs.Listing.{Listing, listingOf, addNode, addBranch, addDef, headOf, payEntry, splitEntry, revealEntry, renewEntry, write, writeContract, DefTree, define, defineAll, nothing}
 use Rattle.trees.proofs.Sheet.{Grown, none, more, Forest}

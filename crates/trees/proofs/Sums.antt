@@ -8,7 +8,7 @@ use native.Mathlib.Omega.{arith}
 use Rattle.bitml.specs.Lists.{sum}
 use Rattle.tables.specs.Entries.{Entries}
 use Rattle.tables.specs.SheetOf.{nodeEntryAt, branchEntryAt, branchNumbers, branchCount, partNumbers, partCount}
-use Rattle.reader.specs.Promises.{noParent}
+use Rattle.reading.specs.Promises.{noParent}
 use Rattle.trees.specs.Tree.{Kind, one, many, parts, Tree, pay, renew, split, reveal, end, also, last, weigh, size, weights, Weighed, nodesIn, branchesIn}
 use Rattle.trees.specs.Listing.{DefTree}
 use Rattle.trees.proofs.Stands.{HasNode, HasBranch, Stands, Planted}

@@ -6,7 +6,7 @@ use Rattle.tables.specs.declared.Head.{Head}
 use Rattle.tables.specs.Entries.{NodeEntry, BranchEntry, DefEntry, Entries}
 use Rattle.tables.specs.State.{nodeEntry, branchEntry, defEntry}
 use Rattle.contracts.specs.Contract.{action}
-use Rattle.reader.specs.Promises.{noParent}
+use Rattle.reading.specs.Promises.{noParent}
 use Rattle.trees.specs.Tree.{Kind, Tree, pay, renew, split, reveal, end, also, last, weigh, Contract, size}
 
 -- the nodes, the branches and the definitions so far

@@ -7,7 +7,7 @@ use lib.ListN.{length}
 use Rattle.bitml.specs.Lists.{sum}
 use Rattle.tables.specs.Entries.{Entries}
 use Rattle.tables.specs.SheetOf.{nodeEntryAt, branchEntryAt, defEntryAt, branchCount, partNumbers, partCount}
-use Rattle.reader.specs.Promises.{noParent, Inside, Nesting}
+use Rattle.reading.specs.Promises.{noParent, Inside, Nesting}
 
 -- "contract: `c`, count of branches, the branches". It is its definition's root, or inside a branch
 pub record NodeShape (E : Entries) (n : ℕ) : Type 0 where

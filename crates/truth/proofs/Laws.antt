@@ -1,7 +1,7 @@
--- One law for each way out of the evaluation, and for each turn of its loops. Assumes nothing.
+-- One law for each way out of the evaluation. Assumes nothing.
 use mathlib.Core.Path.{_≡_, refl, sym, ap, ap₂, _∙_, subst}
-use mathlib.Core.Logic.{inl, inr, ⊎-elim, by-cases}
-use Prim.Native.Nat.{ℕ, zero, suc, _+_, _*_, _/_, _%_, _-_, _≤_, _<_}
+use mathlib.Core.Logic.{_⊎_, inl, inr, ⊎-elim, by-cases}
+use Prim.Native.Nat.{ℕ, suc, _+_, _*_, _-_, _≤_, _<_}
 use native.Mathlib.Omega.{arith}
 use native.Mathlib.Decide.{decLe}
 use mathlib.Core.Bool.{Bool, true, false, not, cond}
@@ -18,24 +18,38 @@ use Rattle.tables.specs.Entries.{held}
 use Rattle.tables.specs.SheetOf.{pickE, pickC, condAt}
 use Rattle.tables.proofs.Held.{cells-part}
 use Rattle.sheets.specs.Ready.{Ready}
-use Rattle.truth.specs.Evaluation.{Cells, Values, Step, Room, exprIn, condIn, ValueAt, secondSide, ValuesAt, OperandsAt, HoldsAt, TruthOf, numbers}
-use Rattle.truth.proofs.Levels.{readE-shrinks, readC-shrinks, expr-parts, cond-parts}
-
-pub step-on : (t : List ℕ) (at : ℕ) → at < length t → Step t at (at + 1)
-step-on t at h = record { same = sym (drop-drop 1 at t); up = omega arith; inside = omega arith; moved = inr (omega arith) }
-
-pub step-end : (t : List ℕ) (at : ℕ) → length t ≤ at → at ≤ length t → Step t at at
-step-end t at h k =
-    let e : at ≡ length t = omega arith in
-    let n : drop at t ≡ [] = ap (λ i. drop i t) e ∙ drop-length t in
-    record { same = n ∙ sym (ap (λ xs. drop 1 xs) n); up = omega arith; inside = k; moved = inl (List·getD-eq-default t 0 {n = at} h) }
-
--- behind a field that is not 0 comes a next one
-pub step-moved : {t : List ℕ} {at on code : ℕ} → Step t at on → code ≡ getD t at 0 → 0 < code → at < on
-step-moved s e h = ⊎-elim (λ z. absurd (omega (arith, e, h, z))) (λ z. z) (s .moved)
+use Rattle.truth.specs.Evaluation.{Cells, Values, rest, Room, exprIn, condIn, ValueAt, secondSide, OperandsAt, HoldsAt, TruthOf, numbers}
+use Rattle.truth.proofs.Levels.{expr-parts, cond-parts}
 
 pub peek-past : (t : List ℕ) (at : ℕ) → length t ≤ at → 0 ≡ getD t at 0
 peek-past t at h = sym (List·getD-eq-default t 0 {n = at} h)
+
+head-is : (t : List ℕ) (left : ℕ) → getD (rest t left) 0 0 ≡ getD t (length t - left) 0
+head-is t left = getD-drop (length t - left) t 0 0 ∙ ap (λ i. getD t i 0) (let z : length t - left + 0 ≡ length t - left = omega arith in z)
+
+pub field-is : (t : List ℕ) (left : ℕ) {r : ℕ} → r ≡ getD t (length t - left) 0 → r ≡ getD (rest t left) 0 0
+field-is t left e = e ∙ sym (head-is t left)
+
+-- From one field of a condition to the next. Where none is left, 0 stands, and none is left behind it
+record Step (cells : List ℕ) (left on : ℕ) : Type 0 where
+  same : rest cells on ≡ drop 1 (rest cells left)
+  down : on ≤ left
+  moved : (getD (rest cells left) 0 0 ≡ 0) ⊎ (on < left)
+
+steps : (t : List ℕ) {left on : ℕ} → left ≤ length t → on ≡ left - 1 → Step t left on
+steps t {left} {on} h e = by-cases (decLe left 0)
+    (λ z.
+    let i : length t - on ≡ length t = omega (arith, e, z) in
+    let j : length t - left ≡ length t = omega (arith, z) in
+    let n : rest t left ≡ [] = ap (λ k. drop k t) j ∙ drop-length t in
+    record { same = ap (λ k. drop k t) i ∙ drop-length t ∙ sym (ap (λ xs. drop 1 xs) n); down = omega (arith, e); moved = inl (ap (λ xs. getD xs 0 0) n) })
+    (λ z.
+    let i : length t - on ≡ length t - left + 1 = omega (arith, e, z, h) in
+    record { same = ap (λ k. drop k t) i ∙ sym (drop-drop 1 (length t - left) t); down = omega (arith, e); moved = inr (omega (arith, e, z)) })
+
+-- a field that is not 0 is there, so fewer are left behind it
+pub fewer : (t : List ℕ) {left on code : ℕ} → left ≤ length t → on ≡ left - 1 → code ≡ getD (rest t left) 0 0 → 0 < code → on < left
+fewer t h e c o = ⊎-elim (λ z. absurd (omega (arith, c, o, z))) (λ z. z) (steps t h e .moved)
 
 -- ---- tests put together
 
@@ -43,19 +57,21 @@ cond-is : (b : Bool) → eqb (cond b 0 1) 0 ≡ b
 cond-is true = refl
 cond-is false = refl
 
-cond-not : (b : Bool) (x y : ℕ) → cond b y x ≡ cond (not b) x y
-cond-not true x y = refl
-cond-not false x y = refl
+cond-not : (b : Bool) → 1 - cond b 0 1 ≡ cond (not b) 0 1
+cond-not true = refl
+cond-not false = refl
 
--- the second of two decides where the first holds, and nothing where it does not
-cond-second : (a b : Bool) (x y : ℕ) → a ≡ true → cond b x y ≡ cond (a & b) x y
-unfolding _&_
-cond-second a b x y e = sym (ap (λ a. cond (a & b) x y) e)
+cond-most : (b : Bool) → cond b 0 1 ≤ 1
+cond-most true = omega arith
+cond-most false = omega arith
 
-cond-first : (a b : Bool) (x y : ℕ) → a ≡ false → cond b y y ≡ cond (a & b) x y
+cond-second : (a b : Bool) → a ≡ true → _≡_ {A = ℕ} (cond b 0 1) (cond (a & b) 0 1)
 unfolding _&_
-cond-first a true x y e = sym (ap (λ a. cond (a & true) x y) e)
-cond-first a false x y e = sym (ap (λ a. cond (a & false) x y) e)
+cond-second a b e = sym (ap (λ a. cond (a & b) 0 1) e)
+
+cond-first : (a b : Bool) → a ≡ false → _≡_ {A = ℕ} 1 (cond (a & b) 0 1)
+unfolding _&_
+cond-first a b e = sym (ap (λ a. cond (a & b) 0 1) e)
 
 -- ---- the slate: what is added to one side leaves the other
 
@@ -68,23 +84,23 @@ swap a b = omega arith
 back : (sign : ℕ) → sign ≤ 1 → 1 - (1 - sign) ≡ sign
 back sign h = omega (arith, h)
 
-module _ {t : List ℕ} {at sign : ℕ} {S : List ℕ} (m : Room t at sign S) where
-  pub turned : Room t at (1 - sign) S
+module _ {t : List ℕ} {left sign : ℕ} {S : List ℕ} (m : Room t left sign S) where
+  pub turned : Room t left (1 - sign) S
   turned = record {
     inside = m .inside;
     side = omega arith;
     long = m .long;
-    small = subst (λ k. getD S (1 - sign) 0 + getD S k 0 ≤ at * 1000000000) (sym (back sign (m .side))) (omega (arith, m .small));
+    small = subst (λ k. getD S (1 - sign) 0 + getD S k 0 ≤ (length t - left) * 1000000000) (sym (back sign (m .side))) (omega (arith, m .small));
   }
 
-  pub any-side : {x : ℕ} → x ≤ 1 → Room t at x S
+  pub any-side : {x : ℕ} → x ≤ 1 → Room t left x S
   any-side {x} h = go (eqb x sign) refl
     where
-      go : (b : Bool) → eqb x sign ≡ b → Room t at x S
-      go true e = subst (λ k. Room t at k S) (sym (eqb-true _ _ e)) m
+      go : (b : Bool) → eqb x sign ≡ b → Room t left x S
+      go true e = subst (λ k. Room t left k S) (sym (eqb-true _ _ e)) m
       go false e =
           let z : 1 - sign ≡ x = omega (arith, eqb-false x sign e, h, m .side) in
-          subst (λ k. Room t at k S) z turned
+          subst (λ k. Room t left k S) z turned
 
   added-side : (y : ℕ) → getD (set S sign y) sign 0 ≡ y
   added-side y = getD-set-same S sign y 0 (omega (arith, m .side, m .long))
@@ -92,7 +108,7 @@ module _ {t : List ℕ} {at sign : ℕ} {S : List ℕ} (m : Room t at sign S) wh
   added-other : (y : ℕ) → getD (set S sign y) (1 - sign) 0 ≡ getD S (1 - sign) 0
   added-other y = getD-set-other S sign (1 - sign) y 0 (λ z. omega (arith, z, m .side))
 
-  added-room : {next : ℕ} (v : ℕ) → next ≤ length t → at * 1000000000 + v ≤ next * 1000000000 → Room t next sign (set S sign (getD S sign 0 + v))
+  added-room : {next : ℕ} (v : ℕ) → next ≤ length t → (length t - left) * 1000000000 + v ≤ (length t - next) * 1000000000 → Room t next sign (set S sign (getD S sign 0 + v))
   added-room {next} v i h = record {
     inside = i;
     side = m .side;
@@ -109,7 +125,7 @@ module _ {t : List ℕ} {at sign : ℕ} {S : List ℕ} (m : Room t at sign S) wh
   naming-named : (x : ℕ) → getD (set S 2 x) 2 0 ≡ x
   naming-named x = getD-set-same S 2 x 0 (omega (arith, m .long))
 
-  naming-room : Room t at sign (set S 2 1)
+  naming-room : Room t left sign (set S 2 1)
   naming-room = record {
     inside = m .inside;
     side = m .side;
@@ -117,21 +133,21 @@ module _ {t : List ℕ} {at sign : ℕ} {S : List ℕ} (m : Room t at sign S) wh
     small = omega (arith, m .small, naming-side 1, naming-other 1);
   }
 
-  pub on-room : {on : ℕ} → Step t at on → Room t on sign S
-  on-room s = record { inside = s .inside; side = m .side; long = m .long; small = omega (arith, m .small, s .up) }
+  pub on-room : {on : ℕ} → on ≡ left - 1 → Room t on sign S
+  on-room e = record { inside = omega (arith, e, m .inside); side = m .side; long = m .long; small = omega (arith, m .small, m .inside, e) }
 
-  -- the side takes 1,000,000,000 more, with at most 32,768 cells passed
+  -- the side takes 1,000,000,000 more, with left most 32,768 cells passed
   pub fits : {v : ℕ} → Cells t → v ≤ 1000000000 → getD S sign 0 + v < 18446744073709551616
-  fits {v} cs h = omega (arith, m .small, m .inside, cs .few, h)
+  fits {v} cs h = omega (arith, m .small, cs .few, h)
 
 -- what a cell of the table or a value holds
-pub cell-most : {t : List ℕ} {k : ℕ} (c : ℕ) → Cells t → k ≡ getD t c 0 → k ≤ 1000000000
-cell-most {t} c cs e = omega (arith, e, cs .cell c)
+pub cell-most : {t : List ℕ} {k : ℕ} (left : ℕ) → Cells t → k ≡ getD (rest t left) 0 0 → k ≤ 1000000000
+cell-most {t} left cs e = omega (arith, e, head-is t left, cs .cell (length t - left))
 
 pub value-most : {values : List ℕ} {x : ℕ} (j : ℕ) → Values values → x ≡ getD values j 0 → x ≤ 1000000000
 value-most {values} j vs e = omega (arith, e, vs .most j)
 
--- both sides start at 0
+-- both sides start left 0
 abbrev cleaned : List ℕ → List ℕ
 cleaned S = set (set S 0 0) 1 0
 
@@ -145,7 +161,7 @@ module _ (S : List ℕ) (l : length S ≡ 4) where
   clean-minus : getD (cleaned S) 1 0 ≡ 0
   clean-minus = getD-set-same (set S 0 0) 1 0 0 (simp length-set (omega (arith, l)))
 
-  pub clean-room : {t : List ℕ} {at : ℕ} → at ≤ length t → Room t at 0 (cleaned S)
+  pub clean-room : {t : List ℕ} {left : ℕ} → left ≤ length t → Room t left 0 (cleaned S)
   clean-room i = record { inside = i; side = omega arith; long = simp length-set l; small = omega (arith, clean-plus, clean-minus) }
 
 -- ---- expressions and conditions
@@ -165,231 +181,196 @@ four : (k : ℕ) → 2 < k → (k ≡ 3 → ⊥) → k ≡ suc (suc (suc (suc (k
 four k h n = omega (arith, h, n)
 
 module _ (t values : List ℕ) where
-  head-is : (at : ℕ) → getD (drop at t) 0 0 ≡ getD t at 0
-  head-is at = getD-drop at t 0 0 ∙ ap (λ i. getD t i 0) (let z : at + 0 ≡ at = omega arith in z)
-
-  -- where no more is left, the place is no earlier
-  later : {at next : ℕ} {fs : List ℕ} → at ≤ length t → next ≤ length t → drop next t ≡ fs → length fs ≤ length (drop at t) → at ≤ next
-  later {at} {next} h k e l = omega (arith, h, k, l, ap (λ fs. length fs) e, length-drop at t, length-drop next t)
-
-  pub value-up : {at sign next : ℕ} {S U : List ℕ} → at ≤ length t → ValueAt t values at sign S next U → at ≤ next
-  value-up {at} h w = later h (w .room .inside) (w .left) (readE-shrinks (suc (length t)) (drop at t))
-
-  pub holds-up : {at yes no next : ℕ} {S U : List ℕ} → at ≤ length t → HoldsAt t values at yes no S next U → at ≤ next
-  holds-up {at} h w = later h (w .inside) (w .left) (readC-shrinks (suc (length t)) (drop at t))
-
-  -- ---- expressions one behind the other
-
-  module _ (n sides : ℕ) {sign at : ℕ} {S : List ℕ} (next : ℕ) (W : List ℕ) where
-    -- one of them is all of them, where no other is due
-    pub values-last : n ≡ 0 → ValueAt t values at sign S next W → ValuesAt t values n sides sign at S next W
-    unfolding ValuesAt
-    values-last e w = subst (λ k. ValuesAt t values k sides sign at S next W) (sym e) w
-
-    pub values-next : {f : ℕ} {U : List ℕ} → (n ≡ 0 → ⊥) → ValueAt t values at sign S f U
-        → ValuesAt t values (n - 1) (sides / 2) (sides % 2) f U next W → ValuesAt t values n sides sign at S next W
-    unfolding ValuesAt
-    values-next {f} {U} nz v w =
-        subst (λ k. ValuesAt t values k sides sign at S next W) (let z : suc (n - 1) ≡ n = omega (arith, nz) in z) (f, U, v, w)
-
-  pub values-alone : (sides sign at next : ℕ) (S W : List ℕ) → ValuesAt t values 0 sides sign at S next W → ValueAt t values at sign S next W
-  unfolding ValuesAt
-  values-alone sides sign at next S W w = w
-
-  values-first : {sign sign′ at f : ℕ} {S U : List ℕ} (n sides next : ℕ) (W : List ℕ)
-      → ((mid : ℕ) (between : List ℕ) → ValueAt t values f sign′ U mid between → ValueAt t values at sign S mid between)
-      → ValuesAt t values n sides sign′ f U next W → ValuesAt t values n sides sign at S next W
-  unfolding ValuesAt
-  values-first zero sides next W g w = g _ _ w
-  values-first (suc n) sides next W g w = (w .0, w .1, g _ _ (w .2), w .3)
-
-  module _ {at code on : ℕ} (ec : code ≡ getD t at 0) (s : Step t at on) where
-    readE-is : (k : ℕ) → code ≡ k → exprIn t (drop at t) ≡ pickE (exprIn t) k (drop on t)
+  module _ {left code on : ℕ} (i : left ≤ length t) (ec : code ≡ getD (rest t left) 0 0) (eo : on ≡ left - 1) where
+    readE-is : (k : ℕ) → code ≡ k → exprIn t (rest t left) ≡ pickE (exprIn t) k (rest t on)
     readE-is k e =
-        expr-parts t (drop at t) (omega (arith, length-drop at t))
-        ∙ ap₂ (λ c fs. pickE (exprIn t) c fs) (head-is at ∙ sym ec ∙ e) (sym (s .same))
+        expr-parts t (rest t left) (omega (arith, length-drop (length t - left) t))
+        ∙ ap₂ (λ c fs. pickE (exprIn t) c fs) (sym ec ∙ e) (sym (steps t i eo .same))
 
-    readC-is : (k : ℕ) → code ≡ k → condIn t (drop at t) ≡ pickC (condIn t) (exprIn t) k (drop on t)
+    readC-is : (k : ℕ) → code ≡ k → condIn t (rest t left) ≡ pickC (condIn t) (exprIn t) k (rest t on)
     readC-is k e =
-        cond-parts t (drop at t) (omega (arith, length-drop at t))
-        ∙ ap₂ (λ c fs. pickC (condIn t) (exprIn t) c fs) (head-is at ∙ sym ec ∙ e) (sym (s .same))
+        cond-parts t (rest t left) (omega (arith, length-drop (length t - left) t))
+        ∙ ap₂ (λ c fs. pickC (condIn t) (exprIn t) c fs) (sym ec ∙ e) (sym (steps t i eo .same))
 
-    module _ {sign : ℕ} {S : List ℕ} (m : Room t at sign S) where
-      pub value-number : {k next : ℕ} → Cells t → code ≡ 0 → k ≡ getD t on 0 → Step t on next → ValueAt t values at sign S next (set S sign (getD S sign 0 + k))
+    module _ {sign : ℕ} {S : List ℕ} (m : Room t left sign S) where
+      pub value-number : {k next : ℕ} → Cells t → code ≡ 0 → k ≡ getD (rest t on) 0 0 → next ≡ on - 1 → ValueAt t values left sign S next (set S sign (getD S sign 0 + k))
       unfolding pickE
-      value-number {k} {next} cs e ek n =
+      value-number {k} {next} cs e ek en =
+          let s = steps t i eo in
+          let h : on ≤ length t = omega (arith, eo, i) in
+          let n = steps t h en in
           let q = readE-is 0 e in
           let y = getD S sign 0 + k in
-          let w : value (numbers values) (exprIn t (drop at t) .0) .0 ≡ k = ap (λ r. value (numbers values) (r .0) .0) q ∙ head-is on ∙ sym ek in
-          let v : value (numbers values) (exprIn t (drop at t) .0) .1 ≡ 0 = ap (λ r. value (numbers values) (r .0) .1) q in
+          let w : value (numbers values) (exprIn t (rest t left) .0) .0 ≡ k = ap (λ r. value (numbers values) (r .0) .0) q ∙ sym ek in
+          let v : value (numbers values) (exprIn t (rest t left) .0) .1 ≡ 0 = ap (λ r. value (numbers values) (r .0) .1) q in
           record {
             plus = omega (arith, added-side m y, w);
             minus = omega (arith, added-other m y, v);
             named = ap (λ i. eqb i 0) (getD-set-other S sign 2 y 0 (λ z. omega (arith, z, m .side))) ∙ sym (and-end _) ∙ sym (ap (λ r. eqb (getD S 2 0) 0 & closedExpr (r .0)) q);
-            left = n .same ∙ sym (ap (λ r. r .1) q);
-            room = added-room m k (n .inside) (⊎-elim (λ z. omega (arith, ek, z, s .up, n .up)) (λ z. omega (arith, ek, z, s .up, cs .cell on)) (n .moved));
+            behind = n .same ∙ sym (ap (λ r. r .1) q);
+            down = omega (arith, s .down, n .down);
+            room = added-room m k (omega (arith, h, n .down)) (⊎-elim (λ z. omega (arith, i, ek, z, s .down, n .down)) (λ z. omega (arith, i, cell-most on cs ek, z, s .down)) (n .moved));
           }
 
-      pub value-secret : {j next x : ℕ} → Values values → code ≡ 1 → j ≡ getD t on 0 → x ≡ getD values j 0 → Step t on next
-          → ValueAt t values at sign S next (set (set S sign (getD S sign 0 + x)) 2 1)
+      pub value-secret : {j next x : ℕ} → Values values → code ≡ 1 → j ≡ getD (rest t on) 0 0 → x ≡ getD values j 0 → next ≡ on - 1
+          → ValueAt t values left sign S next (set (set S sign (getD S sign 0 + x)) 2 1)
       unfolding pickE
-      value-secret {j} {next} {x} vs e ej ex n =
+      value-secret {j} {next} {x} vs e ej ex en =
+          let s = steps t i eo in
+          let h : on ≤ length t = omega (arith, eo, i) in
+          let n = steps t h en in
           let q = readE-is 1 e in
           let y = getD S sign 0 + x in
-          let w : value (numbers values) (exprIn t (drop at t) .0) .0 ≡ x = ap (λ r. value (numbers values) (r .0) .0) q ∙ ap (λ i. getD values i 0) (head-is on ∙ sym ej) ∙ sym ex in
-          let v : value (numbers values) (exprIn t (drop at t) .0) .1 ≡ 0 = ap (λ r. value (numbers values) (r .0) .1) q in
-          let a = added-room m x (n .inside) (⊎-elim (λ z. absurd (omega (arith, ec, e, z))) (λ z. omega (arith, ex, vs .most j, z, n .up)) (s .moved)) in
-          let g : closedExpr (exprIn t (drop at t) .0) ≡ false = ap (λ r. closedExpr (r .0)) q in
+          let w : value (numbers values) (exprIn t (rest t left) .0) .0 ≡ x = ap (λ r. value (numbers values) (r .0) .0) q ∙ ap (λ i. getD values i 0) (sym ej) ∙ sym ex in
+          let v : value (numbers values) (exprIn t (rest t left) .0) .1 ≡ 0 = ap (λ r. value (numbers values) (r .0) .1) q in
+          let a = added-room m {next = next} x (omega (arith, h, n .down)) (⊎-elim (λ z. absurd (omega (arith, ec, e, z))) (λ z. omega (arith, i, ex, vs .most j, z, n .down)) (s .moved)) in
+          let g : closedExpr (exprIn t (rest t left) .0) ≡ false = ap (λ r. closedExpr (r .0)) q in
           let k : getD (set (set S sign y) 2 1) 2 0 ≡ 1 = naming-named a 1 in
           record {
             plus = omega (arith, naming-side a 1, added-side m y, w);
             minus = omega (arith, naming-other a 1, added-other m y, v);
             named = ap (λ i. eqb i 0) k ∙ sym (and-no _ _ refl) ∙ sym (ap (λ b. eqb (getD S 2 0) 0 & b) g);
-            left = n .same ∙ sym (ap (λ r. r .1) q);
+            behind = n .same ∙ sym (ap (λ r. r .1) q);
+            down = omega (arith, s .down, n .down);
             room = naming-room a;
           }
 
       -- the first operand is done: what the second gives is what the whole gives
       module _ {f : ℕ} {U : List ℕ} (wa : ValueAt t values on sign S f U) {next : ℕ} {W : List ℕ} where
-        value-add : code ≡ 2 → ValueAt t values f sign U next W → ValueAt t values at sign S next W
+        value-add : code ≡ 2 → ValueAt t values f sign U next W → ValueAt t values left sign S next W
         unfolding pickE
         value-add e wb =
-            let q = readE-is 2 e ∙ ap (λ fs. (add (exprIn t (drop on t) .0) (exprIn t fs .0), exprIn t fs .1)) (sym (wa .left)) in
+            let q = readE-is 2 e ∙ ap (λ fs. (add (exprIn t (rest t on) .0) (exprIn t fs .0), exprIn t fs .1)) (sym (wa .behind)) in
             record {
               plus = chain _ _ _ _ _ _ (wa .plus) (wb .plus) (ap (λ r. value (numbers values) (r .0) .0) q);
               minus = chain _ _ _ _ _ _ (wa .minus) (wb .minus) (ap (λ r. value (numbers values) (r .0) .1) q);
-              named = wb .named ∙ ap (λ b. b & closedExpr (exprIn t (drop f t) .0)) (wa .named) ∙ and-assoc _ _ _ ∙ sym (ap (λ r. eqb (getD S 2 0) 0 & closedExpr (r .0)) q);
-              left = wb .left ∙ sym (ap (λ r. r .1) q);
+              named = wb .named ∙ ap (λ b. b & closedExpr (exprIn t (rest t f) .0)) (wa .named) ∙ and-assoc _ _ _ ∙ sym (ap (λ r. eqb (getD S 2 0) 0 & closedExpr (r .0)) q);
+              behind = wb .behind ∙ sym (ap (λ r. r .1) q);
+              down = omega (arith, wa .down, wb .down, eo);
               room = wb .room;
             }
 
-        value-sub : 1 < code → (code ≡ 2 → ⊥) → ValueAt t values f (1 - sign) U next W → ValueAt t values at sign S next W
+        value-sub : 1 < code → (code ≡ 2 → ⊥) → ValueAt t values f (1 - sign) U next W → ValueAt t values left sign S next W
         unfolding pickE
         value-sub h n wb =
             let z : code ≡ suc (suc (suc (code - 3))) = three code h n in
-            let q = readE-is (suc (suc (suc (code - 3)))) z ∙ ap (λ fs. (sub (exprIn t (drop on t) .0) (exprIn t fs .0), exprIn t fs .1)) (sym (wa .left)) in
+            let q = readE-is (suc (suc (suc (code - 3)))) z ∙ ap (λ fs. (sub (exprIn t (rest t on) .0) (exprIn t fs .0), exprIn t fs .1)) (sym (wa .behind)) in
             let o = back sign (m .side) in
             record {
-              plus = chain _ _ _ _ _ _ (wa .plus) (subst (λ k. getD W k 0 ≡ getD U k 0 + value (numbers values) (exprIn t (drop f t) .0) .1) o (wb .minus)) (ap (λ r. value (numbers values) (r .0) .0) q);
+              plus = chain _ _ _ _ _ _ (wa .plus) (subst (λ k. getD W k 0 ≡ getD U k 0 + value (numbers values) (exprIn t (rest t f) .0) .1) o (wb .minus)) (ap (λ r. value (numbers values) (r .0) .0) q);
               minus = chain _ _ _ _ _ _ (wa .minus) (wb .plus) (ap (λ r. value (numbers values) (r .0) .1) q);
-              named = wb .named ∙ ap (λ b. b & closedExpr (exprIn t (drop f t) .0)) (wa .named) ∙ and-assoc _ _ _ ∙ sym (ap (λ r. eqb (getD S 2 0) 0 & closedExpr (r .0)) q);
-              left = wb .left ∙ sym (ap (λ r. r .1) q);
+              named = wb .named ∙ ap (λ b. b & closedExpr (exprIn t (rest t f) .0)) (wa .named) ∙ and-assoc _ _ _ ∙ sym (ap (λ r. eqb (getD S 2 0) 0 & closedExpr (r .0)) q);
+              behind = wb .behind ∙ sym (ap (λ r. r .1) q);
+              down = omega (arith, wa .down, wb .down, eo);
               room = subst (λ k. Room t next k W) o (turned (wb .room));
             }
 
         -- by the side of the second
-        value-second : {other : ℕ} → 1 < code → other ≡ secondSide code sign → ValueAt t values f other U next W → ValueAt t values at sign S next W
-        value-second {other} h eo wb = go (eqb code 2) refl
+        pub value-second : {other : ℕ} → 1 < code → other ≡ secondSide code sign → ValueAt t values f other U next W → ValueAt t values left sign S next W
+        value-second {other} h es wb = go (eqb code 2) refl
           where
-            go : (b : Bool) → eqb code 2 ≡ b → ValueAt t values at sign S next W
-            go true e = value-add (eqb-true _ _ e) (subst (λ k. ValueAt t values f k U next W) (eo ∙ ap (λ b. cond b sign (1 - sign)) e) wb)
-            go false e = value-sub h (eqb-false _ _ e) (subst (λ k. ValueAt t values f k U next W) (eo ∙ ap (λ b. cond b sign (1 - sign)) e) wb)
-
-      -- expressions one behind the other, an operator at the first
-      module _ {other : ℕ} (n sides next : ℕ) (W : List ℕ) (h : 1 < code) (eo : other ≡ secondSide code sign) where
-        -- its first operand is done
-        pub values-done : {f : ℕ} {U : List ℕ} → ValueAt t values on sign S f U → ValuesAt t values n sides other f U next W → ValuesAt t values n sides sign at S next W
-        values-done wa = values-first n sides next W (λ mid between w. value-second wa h eo w)
-
-        -- its operands are two of those that are due
-        pub values-due : ValuesAt t values (n + 1) (2 * sides + other) sign on S next W → ValuesAt t values n sides sign at S next W
-        unfolding ValuesAt
-        values-due w =
-            let o : other ≤ 1 = second-most code (m .side) eo in
-            let u : ValuesAt t values (suc n) (2 * sides + other) sign on S next W = subst (λ k. ValuesAt t values k (2 * sides + other) sign on S next W) (let z : n + 1 ≡ suc n = omega arith in z) w in
-            values-done (u .2) (subst (λ k. ValuesAt t values n k other (u .0) (u .1) next W) (let z : (2 * sides + other) / 2 ≡ sides = omega (arith, o) in z)
-            (subst (λ k. ValuesAt t values n ((2 * sides + other) / 2) k (u .0) (u .1) next W) (let z : (2 * sides + other) % 2 ≡ other = omega (arith, o) in z) (u .3)))
+            go : (b : Bool) → eqb code 2 ≡ b → ValueAt t values left sign S next W
+            go true e = value-add (eqb-true _ _ e) (subst (λ k. ValueAt t values f k U next W) (es ∙ ap (λ b. cond b sign (1 - sign)) e) wb)
+            go false e = value-sub h (eqb-false _ _ e) (subst (λ k. ValueAt t values f k U next W) (es ∙ ap (λ b. cond b sign (1 - sign)) e) wb)
 
     abbrev holding : ℕ → Bool
-    holding i = holds (numbers values) (condIn t (drop i t) .0)
+    holding i = holds (numbers values) (condIn t (rest t i) .0)
 
-    module _ {yes no : ℕ} {S : List ℕ} where
-      pub holds-always : length S ≡ 4 → code ≡ 0 → HoldsAt t values at yes no S on (set S 3 yes)
+    module _ {S : List ℕ} where
+      pub holds-always : length S ≡ 4 → code ≡ 0 → HoldsAt t values left S on (set S 3 0)
       unfolding pickC
       holds-always l e =
           let q = readC-is 0 e in
           record {
-            truth = getD-set-same S 3 yes 0 (omega (arith, l)) ∙ sym (ap (λ r. cond (holds (numbers values) (r .0)) yes no) q);
-            named = ap (λ i. eqb i 0) (getD-set-other S 3 2 yes 0 (λ z. omega (arith, z))) ∙ sym (and-end _) ∙ sym (ap (λ r. eqb (getD S 2 0) 0 & closed (r .0)) q);
-            left = sym (ap (λ r. r .1) q);
-            inside = s .inside;
+            truth = getD-set-same S 3 0 0 (omega (arith, l)) ∙ sym (ap (λ r. cond (holds (numbers values) (r .0)) 0 1) q);
+            named = ap (λ i. eqb i 0) (getD-set-other S 3 2 0 0 (λ z. omega (arith, z))) ∙ sym (and-end _) ∙ sym (ap (λ r. eqb (getD S 2 0) 0 & closed (r .0)) q);
+            behind = sym (ap (λ r. r .1) q);
+            down = omega (arith, eo);
             long = simp length-set l;
           }
 
-      pub holds-not : {next : ℕ} {W : List ℕ} → code ≡ 2 → HoldsAt t values on no yes S next W → HoldsAt t values at yes no S next W
+      pub holds-not : {next : ℕ} {U : List ℕ} → code ≡ 2 → HoldsAt t values on S next U → HoldsAt t values left S next (set U 3 (1 - getD U 3 0))
       unfolding pickC
-      holds-not e ja =
+      holds-not {next} {U} e ja =
           let q = readC-is 2 e in
+          let y = 1 - getD U 3 0 in
           record {
-            truth = ja .truth ∙ cond-not (holding on) yes no ∙ sym (ap (λ r. cond (holds (numbers values) (r .0)) yes no) q);
-            named = ja .named ∙ sym (ap (λ r. eqb (getD S 2 0) 0 & closed (r .0)) q);
-            left = ja .left ∙ sym (ap (λ r. r .1) q);
-            inside = ja .inside;
-            long = ja .long;
+            truth = getD-set-same U 3 y 0 (omega (arith, ja .long)) ∙ ap (λ i. 1 - i) (ja .truth) ∙ cond-not (holding on) ∙ sym (ap (λ r. cond (holds (numbers values) (r .0)) 0 1) q);
+            named = ap (λ i. eqb i 0) (getD-set-other U 3 2 y 0 (λ z. omega (arith, z))) ∙ ja .named ∙ sym (ap (λ r. eqb (getD S 2 0) 0 & closed (r .0)) q);
+            behind = ja .behind ∙ sym (ap (λ r. r .1) q);
+            down = omega (arith, ja .down, eo);
+            long = simp length-set (ja .long);
           }
 
-      -- the first condition is done
-      module _ {f : ℕ} {U : List ℕ} (e : code ≡ 1) (ja : HoldsAt t values on 0 1 S f U) {next : ℕ} {W : List ℕ} where
-        holds-both : {x : ℕ} → cond (holding f) x no ≡ cond (holding on & holding f) yes no → HoldsAt t values f x no U next W → HoldsAt t values at yes no S next W
+      -- both conditions are done
+      module _ {f : ℕ} {U : List ℕ} (e : code ≡ 1) (ja : HoldsAt t values on S f U) {next : ℕ} {W : List ℕ} (jb : HoldsAt t values f U next W) where
+        holds-both : {X : List ℕ} → getD X 3 0 ≡ cond (holding on & holding f) 0 1 → getD X 2 0 ≡ getD W 2 0 → length X ≡ 4 → HoldsAt t values left S next X
         unfolding pickC
-        holds-both ex jb =
-            let q = readC-is 1 e ∙ ap (λ fs. (both (condIn t (drop on t) .0) (condIn t fs .0), condIn t fs .1)) (sym (ja .left)) in
+        holds-both ex en l =
+            let q = readC-is 1 e ∙ ap (λ fs. (both (condIn t (rest t on) .0) (condIn t fs .0), condIn t fs .1)) (sym (ja .behind)) in
             record {
-              truth = jb .truth ∙ ex ∙ sym (ap (λ r. cond (holds (numbers values) (r .0)) yes no) q);
-              named = jb .named ∙ ap (λ b. b & closed (condIn t (drop f t) .0)) (ja .named) ∙ and-assoc _ _ _ ∙ sym (ap (λ r. eqb (getD S 2 0) 0 & closed (r .0)) q);
-              left = jb .left ∙ sym (ap (λ r. r .1) q);
-              inside = jb .inside;
-              long = jb .long;
+              truth = ex ∙ sym (ap (λ r. cond (holds (numbers values) (r .0)) 0 1) q);
+              named = ap (λ i. eqb i 0) en ∙ jb .named ∙ ap (λ b. b & closed (condIn t (rest t f) .0)) (ja .named) ∙ and-assoc _ _ _ ∙ sym (ap (λ r. eqb (getD S 2 0) 0 & closed (r .0)) q);
+              behind = jb .behind ∙ sym (ap (λ r. r .1) q);
+              down = omega (arith, ja .down, jb .down, eo);
+              long = l;
             }
 
-        pub holds-second : getD U 3 0 ≡ 0 → HoldsAt t values f yes no U next W → HoldsAt t values at yes no S next W
-        holds-second h = holds-both (cond-second (holding on) (holding f) yes no (sym (cond-is (holding on)) ∙ ap (λ i. eqb i 0) (sym (ja .truth)) ∙ eq-eqb _ _ h))
+        -- the second decides where the first holds, and nothing where it does not
+        pub holds-second : getD U 3 0 ≡ 0 → HoldsAt t values left S next W
+        holds-second h = holds-both (jb .truth ∙ cond-second (holding on) (holding f) (sym (cond-is (holding on)) ∙ ap (λ i. eqb i 0) (sym (ja .truth)) ∙ eq-eqb _ _ h)) refl (jb .long)
 
-        pub holds-first : (getD U 3 0 ≡ 0 → ⊥) → HoldsAt t values f no no U next W → HoldsAt t values at yes no S next W
-        holds-first h = holds-both (cond-first (holding on) (holding f) yes no (sym (cond-is (holding on)) ∙ ap (λ i. eqb i 0) (sym (ja .truth)) ∙ ne-eqb _ _ h))
+        pub holds-first : (getD U 3 0 ≡ 0 → ⊥) → HoldsAt t values left S next (set W 3 1)
+        holds-first h = holds-both
+            (getD-set-same W 3 1 0 (omega (arith, jb .long)) ∙ cond-first (holding on) (holding f) (sym (cond-is (holding on)) ∙ ap (λ i. eqb i 0) (sym (ja .truth)) ∙ ne-eqb _ _ h))
+            (getD-set-other W 3 2 1 0 (λ z. omega (arith, z)))
+            (simp length-set (jb .long))
 
       -- two expressions are compared
       module _ {f x : ℕ} {U : List ℕ} (h : 2 < code) (w : OperandsAt t values on S f U)
-          (ex : x ≡ cond (cond (eqb code 3) (eqb (getD U 0 0) (getD U 1 0)) (ltb (getD U 0 0) (getD U 1 0))) yes no) where
+          (ex : x ≡ cond (cond (eqb code 3) (eqb (getD U 0 0) (getD U 1 0)) (ltb (getD U 0 0) (getD U 1 0))) 0 1) where
         holds-test : (b : Bool) (c : Cond)
             → eqb code 3 ≡ b
-            → condIn t (drop at t) ≡ (c, exprIn t (exprIn t (drop on t) .1) .1)
+            → condIn t (rest t left) ≡ (c, exprIn t (exprIn t (rest t on) .1) .1)
             → cond b (eqb (getD U 0 0) (getD U 1 0)) (ltb (getD U 0 0) (getD U 1 0)) ≡ holds (numbers values) c
-            → closed c ≡ (closedExpr (exprIn t (drop on t) .0) & closedExpr (exprIn t (exprIn t (drop on t) .1) .0))
-            → HoldsAt t values at yes no S f (set U 3 x)
+            → closed c ≡ (closedExpr (exprIn t (rest t on) .0) & closedExpr (exprIn t (exprIn t (rest t on) .1) .0))
+            → HoldsAt t values left S f (set U 3 x)
         holds-test b c eb q h k = record {
           truth = getD-set-same U 3 x 0 (omega (arith, w .long)) ∙ ex
-              ∙ ap (λ b. cond (cond b (eqb (getD U 0 0) (getD U 1 0)) (ltb (getD U 0 0) (getD U 1 0))) yes no) eb
-              ∙ ap (λ b. cond b yes no) h ∙ sym (ap (λ r. cond (holds (numbers values) (r .0)) yes no) q);
+              ∙ ap (λ b. cond (cond b (eqb (getD U 0 0) (getD U 1 0)) (ltb (getD U 0 0) (getD U 1 0))) 0 1) eb
+              ∙ ap (λ b. cond b 0 1) h ∙ sym (ap (λ r. cond (holds (numbers values) (r .0)) 0 1) q);
           named = ap (λ i. eqb i 0) (getD-set-other U 3 2 x 0 (λ z. omega (arith, z))) ∙ w .named ∙ sym (ap (λ b. eqb (getD S 2 0) 0 & b) k) ∙ sym (ap (λ r. eqb (getD S 2 0) 0 & closed (r .0)) q);
-          left = w .left ∙ sym (ap (λ r. r .1) q);
-          inside = w .inside;
+          behind = w .behind ∙ sym (ap (λ r. r .1) q);
+          down = omega (arith, w .down, eo);
           long = simp length-set (w .long);
         }
 
-        pub holds-compared : HoldsAt t values at yes no S f (set U 3 x)
+        pub holds-compared : HoldsAt t values left S f (set U 3 x)
         unfolding pickC
         holds-compared = go (eqb code 3) refl
           where
-            go : (b : Bool) → eqb code 3 ≡ b → HoldsAt t values at yes no S f (set U 3 x)
+            go : (b : Bool) → eqb code 3 ≡ b → HoldsAt t values left S f (set U 3 x)
             go true eb = holds-test true _ eb (readC-is 3 (eqb-true _ _ eb)) (ap₂ (λ i j. eqb i j) (w .plus) (w .minus)) refl
             go false eb = holds-test false _ eb (readC-is (suc (suc (suc (suc (code - 4))))) (four code h (eqb-false _ _ eb))) (ap₂ (λ i j. ltb i j) (w .plus) (w .minus)) refl
 
   -- the first expression adds to a clean slate, and the second to its other side
-  pub operands-are : {at f next : ℕ} (S : List ℕ) {U W : List ℕ} → length S ≡ 4
-      → ValueAt t values at 0 (cleaned S) f U → ValueAt t values f 1 U next W → OperandsAt t values at S next W
-  operands-are {at} {f} {next} S {U} {W} l wa wb =
-      let p : getD U 0 0 ≡ value (numbers values) (exprIn t (drop at t) .0) .0 = omega (arith, wa .plus, clean-plus S l) in
-      let m : getD U 1 0 ≡ value (numbers values) (exprIn t (drop at t) .0) .1 = omega (arith, wa .minus, clean-minus S l) in
+  pub operands-are : {left f next : ℕ} (S : List ℕ) {U W : List ℕ} → length S ≡ 4
+      → ValueAt t values left 0 (cleaned S) f U → ValueAt t values f 1 U next W → OperandsAt t values left S next W
+  operands-are {left} {f} {next} S {U} {W} l wa wb =
+      let p : getD U 0 0 ≡ value (numbers values) (exprIn t (rest t left) .0) .0 = omega (arith, wa .plus, clean-plus S l) in
+      let m : getD U 1 0 ≡ value (numbers values) (exprIn t (rest t left) .0) .1 = omega (arith, wa .minus, clean-minus S l) in
       record {
-        plus = wb .minus ∙ ap₂ (λ x fs. x + value (numbers values) (exprIn t fs .0) .1) p (wa .left);
-        minus = wb .plus ∙ swap _ _ ∙ ap₂ (λ x fs. value (numbers values) (exprIn t fs .0) .0 + x) m (wa .left);
-        named = wb .named ∙ ap (λ b. b & closedExpr (exprIn t (drop f t) .0)) (wa .named) ∙ and-assoc _ _ _
-            ∙ ap₂ (λ x fs. eqb x 0 & (closedExpr (exprIn t (drop at t) .0) & closedExpr (exprIn t fs .0))) (clean-named S) (wa .left);
-        left = wb .left ∙ ap (λ fs. exprIn t fs .1) (wa .left);
-        inside = wb .room .inside;
+        plus = wb .minus ∙ ap₂ (λ x fs. x + value (numbers values) (exprIn t fs .0) .1) p (wa .behind);
+        minus = wb .plus ∙ swap _ _ ∙ ap₂ (λ x fs. value (numbers values) (exprIn t fs .0) .0 + x) m (wa .behind);
+        named = wb .named ∙ ap (λ b. b & closedExpr (exprIn t (rest t f) .0)) (wa .named) ∙ and-assoc _ _ _
+            ∙ ap₂ (λ x fs. eqb x 0 & (closedExpr (exprIn t (rest t left) .0) & closedExpr (exprIn t fs .0))) (clean-named S) (wa .behind);
+        behind = wb .behind ∙ ap (λ fs. exprIn t fs .1) (wa .behind);
+        down = omega (arith, wa .down, wb .down);
         long = wb .room .long;
       }
+
+  pub fails-most : {left next : ℕ} {S U : List ℕ} → HoldsAt t values left S next U → getD U 3 0 ≤ 1
+  fails-most {left} w = subst (λ i. i ≤ 1) (sym (w .truth)) (cond-most (holds (numbers values) (condIn t (rest t left) .0)))
 
 -- ---- the cells of a table that was read whole, as they are lent
 
@@ -407,15 +388,28 @@ module _ {t : List ℕ} {n : ℕ} (r : Ready t) (e : n ≡ length (held t .cells
         (λ h. r .promises .cell c (omega (arith, h)));
   })
 
-  pub lent-inside : {c : ℕ} → c < length (held t .cells) → c < length (take (19304 + n - 19304) (drop 19304 t))
-  lent-inside {c} h = subst (λ xs. c < length xs) lent h
+  abbrev lent-part : List ℕ
+  lent-part = take (19304 + n - 19304) (drop 19304 t)
 
-  pub lent-truth : {values : List ℕ} {c next : ℕ} {S U : List ℕ} → HoldsAt (take (19304 + n - 19304) (drop 19304 t)) values c 0 1 S next U
-      → TruthOf (condAt (held t) c) values S U
+  -- the fields from a place on are those that are left
+  lent-place : {c : ℕ} → c < length (held t .cells) → length lent-part - (n - c) ≡ c
+  lent-place {c} h = omega (arith, e, h, ap (λ xs. length xs) lent)
+
+  pub lent-left : {c : ℕ} → c < length (held t .cells) → n - c ≤ length (take (19304 + n - 19304) (drop 19304 t))
+  lent-left {c} h = omega (arith, e, ap (λ xs. length xs) lent)
+
+  pub lent-head : {c code : ℕ} → c < length (held t .cells) → code ≡ getD (take (19304 + n - 19304) (drop 19304 t)) c 0
+      → code ≡ getD (rest (take (19304 + n - 19304) (drop 19304 t)) (n - c)) 0 0
+  lent-head {c} h k = field-is (take (19304 + n - 19304) (drop 19304 t)) (n - c) (k ∙ ap (λ i. getD (take (19304 + n - 19304) (drop 19304 t)) i 0) (sym (lent-place h)))
+
+  pub lent-truth : {values : List ℕ} {c next : ℕ} {S U : List ℕ} → c < length (held t .cells)
+      → HoldsAt (take (19304 + n - 19304) (drop 19304 t)) values (n - c) S next U → TruthOf (condAt (held t) c) values S U
   unfolding condAt
-  lent-truth {values} {c} {next} {S} {U} h = record {
-    truth = h .truth ∙ sym (ap (λ xs. cond (holds (numbers values) (condIn xs (drop c xs) .0)) 0 1) lent);
-    named = h .named ∙ sym (ap (λ xs. eqb (getD S 2 0) 0 & closed (condIn xs (drop c xs) .0)) lent);
+  lent-truth {values} {c} {next} {S} {U} k h = record {
+    truth = h .truth ∙ ap (λ i. cond (holds (numbers values) (condIn lent-part (drop i lent-part) .0)) 0 1) (lent-place k)
+        ∙ sym (ap (λ xs. cond (holds (numbers values) (condIn xs (drop c xs) .0)) 0 1) lent);
+    named = h .named ∙ ap (λ i. eqb (getD S 2 0) 0 & closed (condIn lent-part (drop i lent-part) .0)) (lent-place k)
+        ∙ sym (ap (λ xs. eqb (getD S 2 0) 0 & closed (condIn xs (drop c xs) .0)) lent);
   }
 
 -- ---- what the slate tells

@@ -25,7 +25,7 @@ pickE-shrinks r h (suc zero) fs = drop-shrinks 1 fs
 pickE-shrinks r h (suc (suc zero)) fs = omega (arith, h fs, h (r fs .1))
 pickE-shrinks r h (suc (suc (suc c))) fs = omega (arith, h fs, h (r fs .1))
 
-pub readE-shrinks : (d : ℕ) → Shrinks (readE d)
+readE-shrinks : (d : ℕ) → Shrinks (readE d)
 unfolding readE
 readE-shrinks zero fs = omega arith
 readE-shrinks (suc d) fs = omega (arith, pickE-shrinks (readE d) (readE-shrinks d) (getD fs 0 0) (drop 1 fs), drop-shrinks 1 fs)
@@ -38,7 +38,7 @@ pickC-shrinks r e h k (suc (suc zero)) fs = h fs
 pickC-shrinks r e h k (suc (suc (suc zero))) fs = omega (arith, k fs, k (e fs .1))
 pickC-shrinks r e h k (suc (suc (suc (suc c)))) fs = omega (arith, k fs, k (e fs .1))
 
-pub readC-shrinks : (d : ℕ) → Shrinks (readC d)
+readC-shrinks : (d : ℕ) → Shrinks (readC d)
 unfolding readC
 readC-shrinks zero fs = omega arith
 readC-shrinks (suc d) fs = omega (arith, pickC-shrinks (readC d) (readE d) (readC-shrinks d) (readE-shrinks d) (getD fs 0 0) (drop 1 fs), drop-shrinks 1 fs)

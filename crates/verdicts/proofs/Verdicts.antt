@@ -18,8 +18,8 @@ use Rattle.bitml.specs.Answers.{rowLine, liquidLine, frozenLine, refused, print
 use Rattle.tables.specs.Entries.{Entries, held, people}
 use Rattle.tables.specs.SheetOf.{nodeEntryAt, branchCount, sheetOf, sheetIn}
 use Rattle.tables.proofs.SheetOf.{keep-le, nodes-are, count-of}
-use Rattle.reader.specs.Promises.{Promises}
-use Rattle.reader.proofs.Formed.{well-formed, ranks-small}
+use Rattle.reading.specs.Promises.{Promises}
+use Rattle.reading.proofs.Formed.{well-formed, ranks-small}
 use Rattle.requests.specs.Rows.{RowFits, rowsOf}
 use Rattle.sheets.specs.Ready.{Ready}
 use Rattle.exits.specs.Made.{filled, answerOf, bufferOf}

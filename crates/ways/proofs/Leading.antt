@@ -15,8 +15,8 @@ use Rattle.bitml.proofs.Shortest.{near-is, near-more, near-step, near-branch}
 use Rattle.tables.specs.Entries.{Entries}
 use Rattle.tables.specs.SheetOf.{sheetOf, branchOf, nodeEntryAt, branchEntryAt, defEntryAt, branchCount, branchNumber}
 use Rattle.tables.proofs.SheetOf.{nodes-are, count-of, branch-of, branch-small, branch-node, next-renewal}
-use Rattle.reader.specs.Promises.{Promises}
-use Rattle.reader.proofs.Formed.{part-in, in-parts, branch-place, parts-are-nodes}
+use Rattle.reading.specs.Promises.{Promises}
+use Rattle.reading.proofs.Formed.{part-in, in-parts, branch-place, parts-are-nodes}
 use Rattle.sheets.specs.Ready.{namers}
 use Rattle.sheets.proofs.Indexing.{namer-place}
 use Rattle.exits.proofs.Queue.{flags-none}

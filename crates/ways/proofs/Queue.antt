@@ -14,7 +14,7 @@ use Rattle.bitml.proofs.Lists.{sum-set}
 use Rattle.bitml.proofs.Counting.{at-store}
 use Rattle.tables.specs.Entries.{Entries}
 use Rattle.tables.specs.SheetOf.{sheetOf}
-use Rattle.reader.specs.Promises.{Promises}
+use Rattle.reading.specs.Promises.{Promises}
 use Rattle.exits.specs.Marks.{flag}
 use Rattle.exits.proofs.Queue.{flags-le, room}
 use Rattle.ways.specs.Marks.{Marked, Close, Grew}

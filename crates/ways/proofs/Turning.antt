@@ -16,8 +16,8 @@ use Rattle.bitml.proofs.Shortest.{lowest-is, near-step, near-branch, trail-one,
 use Rattle.tables.specs.Entries.{Entries}
 use Rattle.tables.specs.SheetOf.{sheetOf, branchOf, actionOf, branchEntryAt, defEntryAt, branchCount, branchNumber, partNumbers, partCount, partNumber}
 use Rattle.tables.proofs.SheetOf.{all-in, nodes-are, count-of, branch-of, branch-small, part-small, next-renewal}
-use Rattle.reader.specs.Promises.{Promises}
-use Rattle.reader.proofs.Formed.{place-of, parts-are-nodes}
+use Rattle.reading.specs.Promises.{Promises}
+use Rattle.reading.proofs.Formed.{place-of, parts-are-nodes}
 use Rattle.ways.specs.Distances.{Distances, Lowest, Found, Turned}
 use Rattle.ways.proofs.Leading.{before-of}
 

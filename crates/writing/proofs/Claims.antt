@@ -10,7 +10,7 @@ use lib.Seq.{length-take-le}
 use Rattle.bitml.proofs.Lists.{is-false}
 use Rattle.tables.specs.Entries.{Entries}
 use Rattle.lines.specs.Sheet.{accepted, readSheet}
-use Rattle.reader.specs.Promises.{Sizes}
+use Rattle.reading.specs.Promises.{Sizes}
 use Rattle.ranges.proofs.Reading.{sheet-inside}
 use Rattle.promises.specs.Texts.{Promised}
 use Rattle.promises.proofs.Promised.{promised}

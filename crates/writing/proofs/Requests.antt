@@ -23,7 +23,7 @@ use Rattle.requests.specs.Rows.{mostRank, mostRows, RowFits, rowsWith, rowNumbe
 use Rattle.requests.proofs.Laws.{rows-end, rows-on}
 use Rattle.promises.specs.Texts.{Promised}
 use Rattle.promises.proofs.Promised.{promised}
-use Rattle.reader.specs.Request.{request, make, check, fromRows, fromPart, fromSheet, readRequest}
+use Rattle.reading.specs.Request.{request, make, check, fromRows, fromPart, fromSheet, readRequest}
 use Rattle.texts.specs.Text.{letters, field, fields, line, lineText, linesText}
 use Rattle.texts.proofs.Lengths.{fields-most, line-length}
 use Rattle.writing.specs.Requests.{makeRequest, checkRequest}

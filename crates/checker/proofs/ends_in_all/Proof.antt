@@ -8,8 +8,8 @@ returns : tie.Need-returns
 unfolding endsInAll
 returns c = rw (lt-ltb _ _ (c .if1 .taken))
 
-first-requires : tie.Need-first-requires
-first-requires c κs = search needs
+first-from-requires : tie.Need-first-from-requires
+first-from-requires c κs = search needs
 
 enum-known-g : tie.Need-enum-known-g
 enum-known-g c = search needs
@@ -19,12 +19,12 @@ enum-told c = search needs
 
 returns-2 : tie.Need-returns-2
 unfolding endsInAll namesAll
-returns-2 c = rw (le-ltb _ _ (c .before .before .before .before .if1 .left), ← c .before .before .before .first .ensures, c .before .g .given .1)
+returns-2 c = rw (le-ltb _ _ (c .before .before .before .before .if1 .left), ← c .before .before .before .first-from .ensures, c .before .g .given .1)
 
 returns-3 : tie.Need-returns-3
 unfolding endsInAll namesAll
-returns-3 c = rw (le-ltb _ _ (c .before .before .before .if1 .left), ← c .before .before .first .ensures, c .enum-told .given .1)
+returns-3 c = rw (le-ltb _ _ (c .before .before .before .if1 .left), ← c .before .before .first-from .ensures, c .enum-told .given .1)
 
 pub ends-in-all-spec : {M : Type 1} → statement M
 ends-in-all-spec =
-    tie.close (tie.spec returns first-requires enum-known-g enum-told returns-2 returns-3)
+    tie.close (tie.spec returns first-from-requires enum-known-g enum-told returns-2 returns-3)

@@ -1,6 +1,6 @@
 use mathlib.Core.Path.{refl}
 use native.Mathlib.Omega.{arith}
-use Rattle.reader.specs.Request.{answered}
+use Rattle.reading.specs.Request.{answered}
 use Rattle.promises.specs.Parts.{PartPromise}
 use Rattle.replies.proofs.Giving.{gives-long}
 use Rattle.checker.specs.Entry.{answerFor, judged}

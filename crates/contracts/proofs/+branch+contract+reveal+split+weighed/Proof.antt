@@ -39,7 +39,7 @@ pub +branch+contract+reveal+split+weighed-spec : {M : Type 1} → statement M
     (branch-needs.enum-known-h t)
     (branch-needs.enum-told-2 t)
     (branch-needs.returns-4 t)
-    (branch-needs.word-requires t)
+    (branch-needs.word-from-requires t)
     (branch-needs.move-on-requires t)
     (branch-needs.enum-known-i t)
     (branch-needs.enum-told-3 t)
@@ -62,7 +62,7 @@ pub +branch+contract+reveal+split+weighed-spec : {M : Type 1} → statement M
     contract.Post
     contract-needs.Inv-loop
     contract-needs.μ-loop
-    (contract-needs.word-requires t)
+    (contract-needs.word-from-requires t)
     (contract-needs.move-on-requires t)
     (contract-needs.enum-known-g t)
     (contract-needs.enum-told t)

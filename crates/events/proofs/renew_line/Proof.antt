@@ -16,8 +16,8 @@ values-requires c κs = search needs
 enum-known-h : tie.Need-enum-known-h
 enum-known-h c = search needs
 
-line-end-requires : tie.Need-line-end-requires
-line-end-requires c κs = search needs
+line-end-from-requires : tie.Need-line-end-from-requires
+line-end-from-requires c κs = search needs
 
 enum-known-l : tie.Need-enum-known-l
 enum-known-l c = search needs
@@ -33,11 +33,11 @@ enum-known-g-2 c = search needs
 
 returns : tie.Need-returns
 unfolding renewAt afterPair whenRead
-returns c = rw (← c .before .before .before .before .before .before .before .before .before .before .before .pair-at .ensures, c .before .before .before .before .before .before .before .before .before .g .given .1, ← c .before .before .before .before .before .before .before .values .ensures, c .before .before .before .before .before .h .given .1, ← c .before .before .before .line-end .ensures, c .before .l .given .1)
+returns c = rw (← c .before .before .before .before .before .before .before .before .before .before .before .pair-at .ensures, c .before .before .before .before .before .before .before .before .before .g .given .1, ← c .before .before .before .before .before .before .before .values .ensures, c .before .before .before .before .before .h .given .1, ← c .before .before .before .line-end-from .ensures, c .before .l .given .1)
 
 returns-2 : tie.Need-returns-2
 unfolding renewAt afterPair whenRead
-returns-2 c = rw (← c .before .before .before .before .before .before .before .before .before .before .before .pair-at .ensures, c .before .before .before .before .before .before .before .before .before .g .given .1, ← c .before .before .before .before .before .before .before .values .ensures, c .before .before .before .before .before .h .given .1, ← c .before .before .before .line-end .ensures, c .before .l2 .given .1)
+returns-2 c = rw (← c .before .before .before .before .before .before .before .before .before .before .before .pair-at .ensures, c .before .before .before .before .before .before .before .before .before .g .given .1, ← c .before .before .before .before .before .before .before .values .ensures, c .before .before .before .before .before .h .given .1, ← c .before .before .before .line-end-from .ensures, c .before .l2 .given .1)
 
 returns-3 : tie.Need-returns-3
 unfolding renewAt afterPair whenRead
@@ -55,7 +55,7 @@ renew-line-spec =
     enum-known-g
     values-requires
     enum-known-h
-    line-end-requires
+    line-end-from-requires
     enum-known-l
     enum-known-l-2
     enum-known-h-2

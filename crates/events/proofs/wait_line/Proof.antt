@@ -10,8 +10,8 @@ number-between-requires c κs = search needs
 enum-known-g : tie.Need-enum-known-g
 enum-known-g c = search needs
 
-line-end-requires : tie.Need-line-end-requires
-line-end-requires c κs = search needs
+line-end-from-requires : tie.Need-line-end-from-requires
+line-end-from-requires c κs = search needs
 
 enum-known-h : tie.Need-enum-known-h
 enum-known-h c = search needs
@@ -24,11 +24,11 @@ enum-known-g-2 c = search needs
 
 returns : tie.Need-returns
 unfolding waitAt whenRead
-returns c = rw (← c .before .before .before .before .before .before .before .number-between .ensures, c .before .before .before .before .before .g .given .1, ← c .before .before .before .line-end .ensures, c .before .h .given .1)
+returns c = rw (← c .before .before .before .before .before .before .before .number-between .ensures, c .before .before .before .before .before .g .given .1, ← c .before .before .before .line-end-from .ensures, c .before .h .given .1)
 
 returns-2 : tie.Need-returns-2
 unfolding waitAt whenRead
-returns-2 c = rw (← c .before .before .before .before .before .before .before .number-between .ensures, c .before .before .before .before .before .g .given .1, ← c .before .before .before .line-end .ensures, c .before .h2 .given .1)
+returns-2 c = rw (← c .before .before .before .before .before .before .before .number-between .ensures, c .before .before .before .before .before .g .given .1, ← c .before .before .before .line-end-from .ensures, c .before .h2 .given .1)
 
 returns-3 : tie.Need-returns-3
 unfolding waitAt whenRead
@@ -40,7 +40,7 @@ wait-line-spec =
     (tie.spec
     number-between-requires
     enum-known-g
-    line-end-requires
+    line-end-from-requires
     enum-known-h
     enum-known-h-2
     enum-known-g-2

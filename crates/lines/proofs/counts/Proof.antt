@@ -16,8 +16,8 @@ number-between-requires-2 c κs = search needs
 enum-known-i : tie.Need-enum-known-i
 enum-known-i c = search needs
 
-line-end-requires : tie.Need-line-end-requires
-line-end-requires c κs = search needs
+line-end-from-requires : tie.Need-line-end-from-requires
+line-end-from-requires c κs = search needs
 
 enum-known-l : tie.Need-enum-known-l
 enum-known-l c = search needs
@@ -33,11 +33,11 @@ enum-known-h-2 c = search needs
 
 returns : tie.Need-returns
 unfolding countsAt whenRead
-returns c = rw (← c .before .before .before .before .before .before .before .before .before .before .before .number-between .ensures, c .before .before .before .before .before .before .before .before .before .h .given .1, ← c .before .before .before .before .before .before .before .number-between2 .ensures, c .before .before .before .before .before .i .given .1, ← c .before .before .before .line-end .ensures, c .before .l .given .1)
+returns c = rw (← c .before .before .before .before .before .before .before .before .before .before .before .number-between .ensures, c .before .before .before .before .before .before .before .before .before .h .given .1, ← c .before .before .before .before .before .before .before .number-between2 .ensures, c .before .before .before .before .before .i .given .1, ← c .before .before .before .line-end-from .ensures, c .before .l .given .1)
 
 returns-2 : tie.Need-returns-2
 unfolding countsAt whenRead
-returns-2 c = rw (← c .before .before .before .before .before .before .before .before .before .before .before .number-between .ensures, c .before .before .before .before .before .before .before .before .before .h .given .1, ← c .before .before .before .before .before .before .before .number-between2 .ensures, c .before .before .before .before .before .i .given .1, ← c .before .before .before .line-end .ensures, c .before .l2 .given .1)
+returns-2 c = rw (← c .before .before .before .before .before .before .before .before .before .before .before .number-between .ensures, c .before .before .before .before .before .before .before .before .before .h .given .1, ← c .before .before .before .before .before .before .before .number-between2 .ensures, c .before .before .before .before .before .i .given .1, ← c .before .before .before .line-end-from .ensures, c .before .l2 .given .1)
 
 returns-3 : tie.Need-returns-3
 unfolding countsAt whenRead
@@ -55,7 +55,7 @@ counts-spec =
     enum-known-h
     number-between-requires-2
     enum-known-i
-    line-end-requires
+    line-end-from-requires
     enum-known-l
     enum-known-l-2
     enum-known-i-2

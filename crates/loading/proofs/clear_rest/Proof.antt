@@ -1,5 +1,5 @@
 use native.Mathlib.Omega.{arith}
-use Rattle.reader.proofs.Sizes.{sizes-within}
+use Rattle.reading.proofs.Sizes.{sizes-within}
 use Rattle.loading.proofs.Table.{cleared-is}
 use borrow.Author.Needs.{needs}
 use Rattle.loading.proofs.clear_rest.Statement.{statement}

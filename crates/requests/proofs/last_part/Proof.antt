@@ -5,8 +5,8 @@ use Rattle.requests.specs.Part.{lastPartAt}
 use Rattle.requests.proofs.last_part.Statement.{statement}
 use Rattle.requests.proofs.last_part.Tie as tie
 
-first-requires : tie.Need-first-requires
-first-requires c κs = search needs
+first-from-requires : tie.Need-first-from-requires
+first-from-requires c κs = search needs
 
 enum-known-g : tie.Need-enum-known-g
 enum-known-g c = search needs
@@ -31,37 +31,37 @@ enum-known-g-2 c = search needs
 
 returns : tie.Need-returns
 unfolding lastPartAt whenRead
-returns c = rw (← c .before .before .before .before .before .first .ensures, c .before .before .before .g .given .1, c .before .match2 .keys1, ← c .make-part .ensures)
+returns c = rw (← c .before .before .before .before .before .first-from .ensures, c .before .before .before .g .given .1, c .before .match2 .keys1, ← c .make-part .ensures)
 
 returns-2 : tie.Need-returns-2
 unfolding lastPartAt whenRead
-returns-2 c = rw (← c .before .before .before .before .before .first .ensures, c .before .before .before .g .given .1, c .before .match2 .keys2, ← c .make-all-part .ensures)
+returns-2 c = rw (← c .before .before .before .before .before .first-from .ensures, c .before .before .before .g .given .1, c .before .match2 .keys2, ← c .make-all-part .ensures)
 
 returns-3 : tie.Need-returns-3
 unfolding lastPartAt whenRead
-returns-3 c = rw (← c .before .before .before .before .before .first .ensures, c .before .before .before .g .given .1, c .before .match2 .keys3, ← c .why-part .ensures)
+returns-3 c = rw (← c .before .before .before .before .before .first-from .ensures, c .before .before .before .g .given .1, c .before .match2 .keys3, ← c .why-part .ensures)
 
 returns-4 : tie.Need-returns-4
 unfolding lastPartAt whenRead
-returns-4 c = rw (← c .before .before .before .before .before .first .ensures, c .before .before .before .g .given .1, c .before .match2 .keys4, ← c .check-part .ensures)
+returns-4 c = rw (← c .before .before .before .before .before .first-from .ensures, c .before .before .before .g .given .1, c .before .match2 .keys4, ← c .check-part .ensures)
 
 returns-5 : tie.Need-returns-5
 unfolding lastPartAt whenRead
-returns-5 c = rw (← c .before .before .before .before .before .first .ensures, c .before .before .before .g .given .1, c .before .match2 .keys5, ← c .play-part .ensures)
+returns-5 c = rw (← c .before .before .before .before .before .first-from .ensures, c .before .before .before .g .given .1, c .before .match2 .keys5, ← c .play-part .ensures)
 
 returns-6 : tie.Need-returns-6
 unfolding lastPartAt whenRead
-returns-6 c = rw (← c .before .before .before .before .first .ensures, c .before .before .g .given .1, ne-eqb _ _ (c .match2 .rest .0 .0 .0 .0 .1), ne-eqb _ _ (c .match2 .rest .0 .0 .0 .1), ne-eqb _ _ (c .match2 .rest .0 .0 .1), ne-eqb _ _ (c .match2 .rest .0 .1), ne-eqb _ _ (c .match2 .rest .1))
+returns-6 c = rw (← c .before .before .before .before .first-from .ensures, c .before .before .g .given .1, ne-eqb _ _ (c .match2 .rest .0 .0 .0 .0 .1), ne-eqb _ _ (c .match2 .rest .0 .0 .0 .1), ne-eqb _ _ (c .match2 .rest .0 .0 .1), ne-eqb _ _ (c .match2 .rest .0 .1), ne-eqb _ _ (c .match2 .rest .1))
 
 returns-7 : tie.Need-returns-7
 unfolding lastPartAt whenRead
-returns-7 c = rw (← c .before .before .before .first .ensures, c .before .g2 .given .1)
+returns-7 c = rw (← c .before .before .before .first-from .ensures, c .before .g2 .given .1)
 
 pub last-part-spec : {M : Type 1} → statement M
 last-part-spec =
     tie.close
     (tie.spec
-    first-requires
+    first-from-requires
     enum-known-g
     make-part-requires
     make-all-part-requires

@@ -17,8 +17,8 @@ returns : tie.Need-returns
 unfolding participantAt whenRead
 returns c = rw (← c .before .before .number-below .ensures, c .enum-told .given .1)
 
-line-end-requires : tie.Need-line-end-requires
-line-end-requires c κs = search needs
+line-end-from-requires : tie.Need-line-end-from-requires
+line-end-from-requires c κs = search needs
 
 enum-known-h : tie.Need-enum-known-h
 enum-known-h c = search needs
@@ -28,11 +28,11 @@ enum-told-2 c = search needs
 
 returns-2 : tie.Need-returns-2
 unfolding participantAt whenRead
-returns-2 c = rw (← c .before .before .before .before .before .before .number-below .ensures, c .before .before .before .before .g .given .1, ← c .before .before .line-end .ensures, c .enum-told2 .given .1)
+returns-2 c = rw (← c .before .before .before .before .before .before .number-below .ensures, c .before .before .before .before .g .given .1, ← c .before .before .line-end-from .ensures, c .enum-told2 .given .1)
 
 returns-3 : tie.Need-returns-3
 unfolding participantAt whenRead
-returns-3 c = rw (← c .before .before .before .before .before .before .before .number-below .ensures, c .before .before .before .before .before .g .given .1, ← c .before .before .before .line-end .ensures, c .before .h .given .1)
+returns-3 c = rw (← c .before .before .before .before .before .before .before .number-below .ensures, c .before .before .before .before .before .g .given .1, ← c .before .before .before .line-end-from .ensures, c .before .h .given .1)
 
 pub participant-spec : {M : Type 1} → statement M
 participant-spec =
@@ -42,7 +42,7 @@ participant-spec =
     enum-known-g
     enum-told
     returns
-    line-end-requires
+    line-end-from-requires
     enum-known-h
     enum-told-2
     returns-2

@@ -28,8 +28,8 @@ number-between-requires c κs = search needs
 enum-known-i : tie.Need-enum-known-i
 enum-known-i c = search needs
 
-line-end-requires : tie.Need-line-end-requires
-line-end-requires c κs = search needs
+line-end-from-requires : tie.Need-line-end-from-requires
+line-end-from-requires c κs = search needs
 
 enum-known-l : tie.Need-enum-known-l
 enum-known-l c = search needs
@@ -48,11 +48,11 @@ enum-known-g-2 c = search needs
 
 returns : tie.Need-returns
 unfolding rowNumbersAt whenRead
-returns c = rw (← c .before .before .before .before .before .before .before .before .before .before .before .before .before .before .before .before .number-below .ensures, c .before .before .before .before .before .before .before .before .before .before .before .before .before .before .g .given .1, ← c .before .before .before .before .before .before .before .before .before .before .before .before .branch-count .ensures, ← c .before .before .before .before .before .before .before .before .before .before .before .number-below2 .ensures, c .before .before .before .before .before .before .before .before .before .h .given .1, ← c .before .before .before .before .before .before .before .number-between .ensures, c .before .before .before .before .before .i .given .1, ← c .before .before .before .line-end .ensures, c .before .l .given .1)
+returns c = rw (← c .before .before .before .before .before .before .before .before .before .before .before .before .before .before .before .before .number-below .ensures, c .before .before .before .before .before .before .before .before .before .before .before .before .before .before .g .given .1, ← c .before .before .before .before .before .before .before .before .before .before .before .before .branch-count .ensures, ← c .before .before .before .before .before .before .before .before .before .before .before .number-below2 .ensures, c .before .before .before .before .before .before .before .before .before .h .given .1, ← c .before .before .before .before .before .before .before .number-between .ensures, c .before .before .before .before .before .i .given .1, ← c .before .before .before .line-end-from .ensures, c .before .l .given .1)
 
 returns-2 : tie.Need-returns-2
 unfolding rowNumbersAt whenRead
-returns-2 c = rw (← c .before .before .before .before .before .before .before .before .before .before .before .before .before .before .before .before .number-below .ensures, c .before .before .before .before .before .before .before .before .before .before .before .before .before .before .g .given .1, ← c .before .before .before .before .before .before .before .before .before .before .before .before .branch-count .ensures, ← c .before .before .before .before .before .before .before .before .before .before .before .number-below2 .ensures, c .before .before .before .before .before .before .before .before .before .h .given .1, ← c .before .before .before .before .before .before .before .number-between .ensures, c .before .before .before .before .before .i .given .1, ← c .before .before .before .line-end .ensures, c .before .l2 .given .1)
+returns-2 c = rw (← c .before .before .before .before .before .before .before .before .before .before .before .before .before .before .before .before .number-below .ensures, c .before .before .before .before .before .before .before .before .before .before .before .before .before .before .g .given .1, ← c .before .before .before .before .before .before .before .before .before .before .before .before .branch-count .ensures, ← c .before .before .before .before .before .before .before .before .before .before .before .number-below2 .ensures, c .before .before .before .before .before .before .before .before .before .h .given .1, ← c .before .before .before .before .before .before .before .number-between .ensures, c .before .before .before .before .before .i .given .1, ← c .before .before .before .line-end-from .ensures, c .before .l2 .given .1)
 
 returns-3 : tie.Need-returns-3
 unfolding rowNumbersAt whenRead
@@ -77,7 +77,7 @@ row-numbers-spec =
     enum-known-h
     number-between-requires
     enum-known-i
-    line-end-requires
+    line-end-from-requires
     enum-known-l
     enum-known-l-2
     enum-known-i-2

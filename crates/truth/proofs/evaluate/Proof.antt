@@ -1,4 +1,5 @@
-use Rattle.truth.proofs.Laws.{lent-cells, lent-inside, lent-truth, step-on, holds-always}
+use Rattle.truth.proofs.Laws.{lent-cells, lent-left, lent-head, lent-truth, holds-always}
+use mathlib.Core.Path.{refl}
 use native.Mathlib.Omega.{arith}
 use borrow.Author.Needs.{needs}
 use Rattle.truth.proofs.evaluate.Statement.{statement}
@@ -28,18 +29,24 @@ element-write-slate c = search needs
 returns : tie.Need-returns
 returns c =
     let c1 = c .before in let c3 = c1 .before .before in let c6 = c3 .before .before .before in
-    lent-truth (c6 .pre .0) (c3 .cell-total .ensures)
-    (holds-always _ _ (c1 .peek .ensures) (step-on _ _ (lent-inside (c6 .pre .0) (c3 .cell-total .ensures) (c6 .pre .1 .0 .0))) (c6 .pre .1 .0 .1) (c .if1 .taken))
+    let r = c6 .pre .0 in
+    let e = c3 .cell-total .ensures in
+    let h = c6 .pre .1 .0 .0 in
+    lent-truth r e h (holds-always _ _ (lent-left r e h) (lent-head r e h (c1 .peek .ensures)) refl (c6 .pre .1 .0 .1) (c .if1 .taken))
+
+sub-condition : tie.Need-sub-condition
+sub-condition c = search needs
 
 condition-requires : tie.Need-condition-requires
 condition-requires c κs =
     let c4 = c .before .before .before .before in let c7 = c4 .before .before .before in
-    (lent-cells (c7 .pre .0) (c4 .cell-total .ensures), (c7 .pre .1 .1, (omega (arith, lent-inside (c7 .pre .0) (c4 .cell-total .ensures) (c7 .pre .1 .0 .0)), c7 .pre .1 .0 .1)))
+    let e = c4 .cell-total .ensures in
+    (lent-cells (c7 .pre .0) e, (c7 .pre .1 .1, (lent-left (c7 .pre .0) e (c7 .pre .1 .0 .0), c7 .pre .1 .0 .1)))
 
 returns-2 : tie.Need-returns-2
 returns-2 c =
     let c5 = c .before .before .before .before .before in let c8 = c5 .before .before .before in
-    lent-truth (c8 .pre .0) (c5 .cell-total .ensures) (c .condition .ensures)
+    lent-truth (c8 .pre .0) (c5 .cell-total .ensures) (c8 .pre .1 .0 .0) (c .condition .ensures)
 
 pub evaluate-spec : {M : Type 1} → statement M
 evaluate-spec =
@@ -53,5 +60,6 @@ evaluate-spec =
     peek-requires
     element-write-slate
     returns
+    sub-condition
     condition-requires
     returns-2)

@@ -20,7 +20,7 @@ use Rattle.contracts.proofs.+branch+contract+reveal+split+weighed.Lts-w
 use Rattle.conditions.proofs.condition.Reads as condition-reads
 use Rattle.contracts.proofs.leaf.Reads as leaf-reads
 use Rattle.contracts.proofs.list_all.Reads as list-all-reads
-use Rattle.fields.proofs.word.Reads as word-reads
+use Rattle.reader.proofs.word_from.Reads as word-reads
 use Rattle.steps.proofs.move_on.Reads as move-on-reads
 use Rattle.steps.proofs.num.Reads as num-reads
 use Rattle.tables.proofs.put_branch.Reads as put-branch-reads

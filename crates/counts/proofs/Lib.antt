@@ -1,0 +1,14 @@
+pub mod Updates
+pub mod Looking
+pub mod Finding
+pub mod Waiting
+pub mod Signing
+pub mod Telling
+pub mod Making
+pub mod Firing
+pub mod Revealing
+pub mod Splitting
+pub mod Storing
+pub mod Renewing
+pub mod Beginning
+pub mod Ending

@@ -1,0 +1,5 @@
+pub mod Book
+pub mod View
+pub mod Fit
+pub mod Does
+pub mod Steps

@@ -1,10 +1,10 @@
 // The checker's entry: any request and any lent buffers get one reply, and so do any text and any table.
-use reader::first_from;
 use fields::Got;
 use lent::Row;
 use lent::emit_rows;
 use loading::read_sheet;
 use plays::play_for;
+use reader::first_from;
 use reading::Request;
 use reading::read;
 use reasons::why_for;

@@ -1,13 +1,15 @@
 -- What reading a condition gives: a cell for each field, in the order of the text. Assumes nothing.
-use Prim.Native.Nat.{ℕ, zero, suc, _*_, _≤_, _<_}
+use Prim.Native.Nat.{ℕ, zero, suc, _+_, _*_, _≤_, _<_}
 use mathlib.Core.Path.{_≡_}
 use mathlib.Core.List.{List}
 use lib.ListN.{length}
 use lib.Dec.{leb, eqb}
 use Rattle.fields.specs.Field.{anyNumber, numberAt, wordAt}
 use Rattle.tables.specs.declared.St.{St}
-use Rattle.tables.specs.State.{State, Fits, withCell, moreCells, among, since}
-use Rattle.steps.specs.Steps.{Outcome, next, bad, goOn, either, andThen, twice}
+use Rattle.tables.specs.State.{State, Fits, withCell, among, since}
+use Rattle.steps.specs.declared.Read.{Read}
+use Rattle.steps.specs.declared.Read.the-variants.{Value, Bad}
+use Rattle.steps.specs.Steps.{Outcome, next, bad, goOn, either, andThen, twice, Met}
 use Rattle.conditions.specs.Words.{noWord, conditionCell, expressionCell}
 
 -- "64 fields in a condition": a cell more for the field at p, unless the cells have come to the limit
@@ -77,17 +79,22 @@ pub record HasRoom (s : List ℕ) (st : St) : Type 0 where
   pub inside : st .at ≤ length s
   pub short : length s ≤ 65536
 
--- one cell was added, below a limit
-pub record Stored (limit : ℕ) (st e : St) : Type 0 where
-  pub one-cell : e ≡ moreCells st
-  pub below : st .cells < limit
-
--- only cells were added, up to a limit
-pub record Kept (s : List ℕ) (limit : ℕ) (st e : St) : Type 0 where
+-- only cells were added, one at least
+pub record Kept (s : List ℕ) (st e : St) : Type 0 where
   pub same-nodes : e .nodes ≡ st .nodes
   pub same-branches : e .branches ≡ st .branches
   pub same-defs : e .defs ≡ st .defs
   pub same-listed : e .listed ≡ st .listed
-  pub few-cells : e .cells ≤ limit
+  pub more-cells : st .cells < e .cells
   pub paid-cells : 2 * e .cells ≤ e .at
   pub still-inside : e .at ≤ length s
+
+-- an answer's number is how many fields may still come: with the cells it makes the limit
+unfoldable pub Leaves : ℕ → Read → Type 0
+Leaves limit (Value left e) = e .cells + left ≡ limit
+Leaves limit (Bad n p) = Unit {0}
+
+-- what is answered with `left` fields still to come: what is wanted, by the limit and by any depth from `left` on, for each word takes a field
+pub record Within (s : List ℕ) (left : ℕ) (st : St) (want : ℕ → ℕ → Outcome) (r : Read) (t : List ℕ) : Type 0 where
+  pub met : (d : ℕ) → left ≤ d → Met (Kept s st) (want (st .cells + left) d) r t
+  pub leaves : Leaves (st .cells + left) r

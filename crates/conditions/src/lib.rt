@@ -1,4 +1,5 @@
-// Conditions and expressions, read into cells of the table that the caller lends.
+// Conditions and expressions, read into cells of the table that the caller lends. "A condition may nest": a reader calls itself for each part,
+// over the fields that may still come, and their count falls. What it answers says how many are left behind what it read.
 use steps::Read;
 use steps::letters;
 use steps::num;
@@ -9,10 +10,10 @@ use tables::put_cell;
 ghost use mathlib.Core.Path.{_≡_};
 ghost use Prim.Native.Nat.{_+_, _<_};
 ghost use lib.ListN.{length};
-ghost use Rattle.tables.specs.State.{stateOf, Fits};
+ghost use Rattle.tables.specs.State.{stateOf, moreCells, Fits};
 ghost use Rattle.steps.specs.Steps.{Met, twice};
 ghost use Rattle.conditions.specs.Words.{conditionCell, expressionCell};
-ghost use Rattle.conditions.specs.Condition.{storeAt, constantAt, secretAt, expressionAt, conditionAt, HasRoom, Stored, Kept};
+ghost use Rattle.conditions.specs.Condition.{storeAt, constantAt, secretAt, expressionAt, conditionAt, HasRoom, Kept, Leaves, Within};
 ghost use Rattle.tables.specs.Entries.{cellsFrom, Spacious};
 
 // The words, as numbers in base 256.
@@ -62,38 +63,41 @@ fn expression_cell(w: usize) -> usize
     }
 }
 
-// A cell more for the field at p, unless the cells have come to the limit.
-fn store(st: St, p: usize, limit: usize, v: usize, t: &mut [usize]) -> Read
+// A cell more for the field at p, unless no field may come any more.
+fn store(st: St, p: usize, left: usize, v: usize, t: &mut [usize]) -> Read
     requires { ⌜ cellsFrom + st .cells < length (now t) ⌝ }
     requires { ⌜ Fits st ⌝ }
     requires { ⌜ st .cells < 32768 ⌝ }
-    ensures { λ r. ⌜ Met (Stored limit st) (storeAt limit p v (stateOf st (now (t .entry)))) r (now (t .exit)) ⌝ }
+    ensures { λ r. ⌜ Met (λ e. e ≡ moreCells st) (storeAt (st .cells + left) p v (stateOf st (now (t .entry)))) r (now (t .exit)) ⌝ }
+    ensures { λ r. ⌜ Leaves (st .cells + left) r ⌝ }
 {
-    if limit <= st.cells {
+    if left == 0 {
         return Read::Bad(7, p);
     }
     let next = put_cell(t, st, v);
-    Read::Value(0, next)
+    Read::Value(left - 1, next)
 }
 
 // The number of a `k`.
-fn constant(s: &[u8], st: St, limit: usize, t: &mut [usize]) -> Read
+fn constant(s: &[u8], st: St, left: usize, t: &mut [usize]) -> Read
     requires { ⌜ Spacious (now s) (now t) ⌝ }
     requires { ⌜ HasRoom (now s) st ⌝ }
-    ensures { λ r. ⌜ Met (Kept (now (s .entry)) limit st) (constantAt (now (s .entry)) limit (stateOf st (now (t .entry)))) r (now (t .exit)) ⌝ }
+    ensures { λ r. ⌜ Met (Kept (now (s .entry)) st) (constantAt (now (s .entry)) (st .cells + left) (stateOf st (now (t .entry)))) r (now (t .exit)) ⌝ }
+    ensures { λ r. ⌜ Leaves (st .cells + left) r ⌝ }
 {
     let g = num(s, st, Sheet::CONSTANT);
     let Read::Value(v, e) = g else {
         return g;
     };
-    store(e, st.at, limit, v, t)
+    store(e, st.at, left, v, t)
 }
 
 // The secret of a `v`, one of those listed from `from` on.
-fn secret(s: &[u8], st: St, limit: usize, from: usize, t: &mut [usize]) -> Read
+fn secret(s: &[u8], st: St, left: usize, from: usize, t: &mut [usize]) -> Read
     requires { ⌜ Spacious (now s) (now t) ⌝ }
     requires { ⌜ HasRoom (now s) st ⌝ }
-    ensures { λ r. ⌜ Met (Kept (now (s .entry)) limit st) (secretAt (now (s .entry)) limit from (stateOf st (now (t .entry)))) r (now (t .exit)) ⌝ }
+    ensures { λ r. ⌜ Met (Kept (now (s .entry)) st) (secretAt (now (s .entry)) (st .cells + left) from (stateOf st (now (t .entry)))) r (now (t .exit)) ⌝ }
+    ensures { λ r. ⌜ Leaves (st .cells + left) r ⌝ }
 {
     let g = num(s, st, Sheet::NUMBER);
     let Read::Value(v, e) = g else {
@@ -102,105 +106,83 @@ fn secret(s: &[u8], st: St, limit: usize, from: usize, t: &mut [usize]) -> Read
     let to = e.listed;
     let there = is_listed(t, from, to, v);
     if there {
-        return store(e, st.at, limit, v, t);
+        return store(e, st.at, left, v, t);
     }
     Read::Bad(6, st.at)
 }
 
-// An expression, with so many words left to nest: of two, the first is read by itself, and the second is the next that is due.
-fn expression(s: &[u8], st: St, depth: usize, limit: usize, from: usize, t: &mut [usize]) -> Read
+// An expression: of two, the first, and then the second over the fields that the first left.
+fn expression(s: &[u8], st: St, left: usize, from: usize, t: &mut [usize]) -> Read
     requires { ⌜ Spacious (now s) (now t) ⌝ }
     requires { ⌜ HasRoom (now s) st ⌝ }
-    ensures { λ r. ⌜ Met (Kept (now (s .entry)) limit st) (expressionAt (now (s .entry)) limit from depth (stateOf st (now (t .entry)))) r (now (t .exit)) ⌝ }
+    ensures { λ r. ⌜ Within (now (s .entry)) left st (λ limit d. expressionAt (now (s .entry)) limit from d (stateOf st (now (t .entry)))) r (now (t .exit)) ⌝ }
 {
-    let mut cur = st;
-    let mut left = depth;
-    loop {
-        let g = letters(s, cur);
-        let Read::Value(w, e) = g else {
-            return g;
-        };
-        let c = expression_cell(w);
-        if c == NONE {
-            return Read::Bad(3, cur.at);
-        }
-        if left == 0 {
-            return Read::Bad(7, cur.at);
-        }
-        let h = store(e, cur.at, limit, c, t);
-        let Read::Value(_, f) = h else {
-            return h;
-        };
-        match c {
-            Sheet::K => return constant(s, f, limit, t),
-            Sheet::V => return secret(s, f, limit, from, t),
-            _ => {
-                left -= 1;
-                let i = expression(s, f, left, limit, from, t);
-                let Read::Value(_, q) = i else {
-                    return i;
-                };
-                cur = q;
-            }
+    let g = letters(s, st);
+    let Read::Value(w, e) = g else {
+        return g;
+    };
+    let c = expression_cell(w);
+    if c == NONE {
+        return Read::Bad(3, st.at);
+    }
+    let h = store(e, st.at, left, c, t);
+    let Read::Value(on, f) = h else {
+        return h;
+    };
+    match c {
+        Sheet::K => return constant(s, f, on, t),
+        Sheet::V => return secret(s, f, on, from, t),
+        _ => {
+            let i = expression(s, f, on, from, t);
+            let Read::Value(next, q) = i else {
+                return i;
+            };
+            return expression(s, q, next, from, t);
         }
     }
 }
 
-fn both_expressions(
-    s: &[u8],
-    st: St,
-    depth: usize,
-    limit: usize,
-    from: usize,
-    t: &mut [usize],
-) -> Read
+// The two sides of an `eq` or an `lt`.
+fn both_expressions(s: &[u8], st: St, left: usize, from: usize, t: &mut [usize]) -> Read
     requires { ⌜ Spacious (now s) (now t) ⌝ }
     requires { ⌜ HasRoom (now s) st ⌝ }
-    ensures { λ r. ⌜ Met (Kept (now (s .entry)) limit st) (twice (expressionAt (now (s .entry)) limit from depth) (stateOf st (now (t .entry)))) r (now (t .exit)) ⌝ }
+    ensures { λ r. ⌜ Within (now (s .entry)) left st (λ limit d. twice (expressionAt (now (s .entry)) limit from d) (stateOf st (now (t .entry)))) r (now (t .exit)) ⌝ }
 {
-    let g = expression(s, st, depth, limit, from, t);
-    let Read::Value(_, e) = g else {
+    let g = expression(s, st, left, from, t);
+    let Read::Value(next, e) = g else {
         return g;
     };
-    expression(s, e, depth, limit, from, t)
+    expression(s, e, next, from, t)
 }
 
-// A condition, with so many words left to nest: of the two of an `and`, the first is read by itself, and the second is the next that is due.
-pub fn condition(s: &[u8], st: St, depth: usize, limit: usize, from: usize, t: &mut [usize]) -> Read
+// A condition: of the two of an `and`, the first, and then the second over the fields that the first left.
+pub fn condition(s: &[u8], st: St, left: usize, from: usize, t: &mut [usize]) -> Read
     requires { ⌜ Spacious (now s) (now t) ⌝ }
     requires { ⌜ HasRoom (now s) st ⌝ }
-    ensures { λ r. ⌜ Met (Kept (now (s .entry)) limit st) (conditionAt (now (s .entry)) limit from depth (stateOf st (now (t .entry)))) r (now (t .exit)) ⌝ }
+    ensures { λ r. ⌜ Within (now (s .entry)) left st (λ limit d. conditionAt (now (s .entry)) limit from d (stateOf st (now (t .entry)))) r (now (t .exit)) ⌝ }
 {
-    let mut cur = st;
-    let mut left = depth;
-    loop {
-        let g = letters(s, cur);
-        let Read::Value(w, e) = g else {
-            return g;
-        };
-        let c = condition_cell(w);
-        if c == NONE {
-            return Read::Bad(3, cur.at);
+    let g = letters(s, st);
+    let Read::Value(w, e) = g else {
+        return g;
+    };
+    let c = condition_cell(w);
+    if c == NONE {
+        return Read::Bad(3, st.at);
+    }
+    let h = store(e, st.at, left, c, t);
+    let Read::Value(on, f) = h else {
+        return h;
+    };
+    match c {
+        Sheet::T => return Read::Value(on, f),
+        Sheet::NOT => return condition(s, f, on, from, t),
+        Sheet::AND => {
+            let i = condition(s, f, on, from, t);
+            let Read::Value(next, q) = i else {
+                return i;
+            };
+            return condition(s, q, next, from, t);
         }
-        if left == 0 {
-            return Read::Bad(7, cur.at);
-        }
-        let h = store(e, cur.at, limit, c, t);
-        let Read::Value(_, f) = h else {
-            return h;
-        };
-        match c {
-            Sheet::T => return Read::Value(0, f),
-            Sheet::NOT => return condition(s, f, left - 1, limit, from, t),
-            Sheet::AND => {
-                left -= 1;
-                let i = condition(s, f, left, limit, from, t);
-                let Read::Value(_, q) = i else {
-                    return i;
-                };
-                cur = q;
-            }
-            _ => return both_expressions(s, f, left - 1, limit, from, t),
-        }
+        _ => return both_expressions(s, f, on, from, t),
     }
 }

@@ -84,7 +84,7 @@ module _ {s : List ℕ} where
         record { few-nodes = omega arith; few-branches = omega arith; few-defs = omega arith; this-def = omega arith; few-listed = omega arith; few-cells = omega arith; inside = omega arith; short = omega arith }
 
     -- after the secrets and the condition of an `r`, with its branch
-    pub few-reveal : {n limit : ℕ} {st e f q : St} → Few s lim st → st .branches < 1024 → n ≤ 8 → Added s 0 n st e → Kept s limit e f → q ≡ moreBranches f → Few s lim q
+    pub few-reveal : {n : ℕ} {st e f q : St} → Few s lim st → st .branches < 1024 → n ≤ 8 → Added s 0 n st e → Kept s e f → q ≡ moreBranches f → Few s lim q
     few-reveal w h m k l i =
         subst (Few s lim) (sym i)
         (record { few-nodes = omega arith; few-branches = omega arith; few-defs = omega arith; this-def = omega arith; few-listed = omega arith; few-cells = omega arith; inside = omega arith; short = omega arith })

@@ -276,7 +276,7 @@ fn reveal(s: &[u8], st: St, h: Head, depth: usize, lim: Limits, t: &mut [usize])
         return l;
     };
     let start = f.cells;
-    let c = condition(s, f, Sheet::FIELDS, start + Sheet::FIELDS, from, t);
+    let c = condition(s, f, Sheet::FIELDS, from, t);
     let Read::Value(_, q) = c else {
         return c;
     };

@@ -1,12 +1,12 @@
 -- The ledger at stipulation. Assumes nothing.
-use Prim.Native.Nat.{ℕ, zero, suc, _+_, _-_, _≤_, _<_}
+use Prim.Native.Nat.{ℕ, zero, suc, _+_, _*_, _-_, _≤_, _<_}
 use mathlib.Core.Path.{_≡_, refl, sym, ap, ap₂, _∙_, subst}
 use mathlib.Core.List.{List, [], _∷_, map}
 use native.Mathlib.Omega.{arith}
 use mathlib.Core.Logic.{by-cases}
 use native.Mathlib.Decide.{decLe}
 use lib.ListN.{getD, set, length, replicate, length-set, length-replicate, List·getD-eq-default}
-use lib.Seq.{ext-getD, getD-set-same}
+use lib.Seq.{ext-getD, getD-set-same, getD-set-other}
 use lib.Dec.{eqb}
 use Rattle.bitml.specs.Lists.{sum}
 use Rattle.bitml.specs.Sheet.{defAt}
@@ -22,7 +22,7 @@ use Rattle.tables.proofs.Laws.{firstOf-agree, firstOf-length, firstOf-getD}
 use Rattle.sheets.specs.Ready.{Ready}
 use Rattle.duties.specs.Duties.{depositsOf, committed, stateOf}
 use Rattle.duties.proofs.Sums.{deposits-most}
-use Rattle.pages.specs.Pages.{Pages, size, start, cellsLong, pagesIn, withContract, withSet, nodes, balances, setNumbers, lives, definitions, counts, states, values, payments, signatures}
+use Rattle.pages.specs.Pages.{Pages, size, start, cellsLong, pagesIn, withContract, withSet, nodes, balances, setNumbers, lives, definitions, secretCounts, states, values, payments, signatures}
 use Rattle.pages.proofs.Laws.{page-long, page-at}
 use Rattle.counts.specs.declared.Counts.{Counts}
 use Rattle.counts.specs.Book.{Book, book}
@@ -75,7 +75,7 @@ module _ (t vs : List ℕ) (ok : Ready t) (ev : length vs ≡ defEntryAt (held t
     unfolding size
     set-is = ap₂ (λ (d : ℕ) (xs : List Commitment). record { definition = d; secrets = xs })
         (getD-set-same (P definitions) 0 0 0 (some definitions (omega arith)))
-        (ap (λ n. firstOf (secretOf R 0) n) (getD-set-same (P counts) 0 (length vs) 0 (some counts (omega arith)))
+        (ap (λ n. firstOf (secretOf R 0) n) (getD-set-same (P secretCounts) 0 (length vs) 0 (some secretCounts (omega arith)))
         ∙ firstOf-agree (secretOf R 0) (λ j. commitmentOf (stateOf (getD vs j 0)) (getD vs j 0 - 1)) (length vs) (λ j h. ap₂ commitmentOf (s .here j h .0) (s .here j h .1))
         ∙ sym (commitments-are vs))
 
@@ -109,6 +109,15 @@ module _ (t vs : List ℕ) (ok : Ready t) (ev : length vs ≡ defEntryAt (held t
     unfolding stipulated depositsTaken
     taken-is = ap (λ (x : Plain). depositsTaken (sheetIn t) x) begin-view ∙ (let y = deposits-sum in omega arith)
 
+    -- behind the first contract and the first set nothing is made
+    other : (s x k : ℕ) → 1 ≤ k → getD (set (P s) 0 x) k 0 ≡ 0
+    other s x k h = getD-set-other (P s) 0 k x 0 (λ e. omega arith) ∙ blank s k
+
+    free-secrets : (i j : ℕ) → getD (set (P secretCounts) 0 (length vs)) i 0 ≤ j → j < 8 → getD st (i * 8 + j) 0 ≡ 0
+    unfolding size
+    free-secrets zero j k h = s .other (0 * 8 + j) (λ j′ q e. (let z = getD-set-same (P secretCounts) 0 (length vs) 0 (some secretCounts (omega arith)) in omega arith)) .0 ∙ blank states (0 * 8 + j)
+    free-secrets (suc i) j k h = s .other (suc i * 8 + j) (λ j′ q e. omega (arith, ev, ok .promises .def 0 (ok .promises .limits .defs .0) .secrets)) .0 ∙ blank states (suc i * 8 + j)
+
     begins : Begins t vs R
     unfolding size
     begins = record {
@@ -123,11 +132,25 @@ module _ (t vs : List ℕ) (ok : Ready t) (ev : length vs ≡ defEntryAt (held t
         total = money;
         node = λ c h. put-all (λ x. x < length (held t .nodes)) (P nodes) 0 root (λ j k. absurd (omega arith)) (ok .promises .def 0 (ok .promises .limits .defs .0) .root) (some nodes (omega arith)) c (omega arith);
         set = λ c h. at-set (λ x. x < 1) (P setNumbers) 0 c 0 0 (let z = blank setNumbers c in omega arith) (λ _. omega arith);
-        count = λ i h. at-set (λ x. x ≤ 8) (P counts) 0 i (length vs) 0 (let z = blank counts i in omega arith) (λ _. omega (arith, ok .promises .def 0 (ok .promises .limits .defs .0) .secrets));
+        count = λ i h. at-set (λ x. x ≤ 8) (P secretCounts) 0 i (length vs) 0 (let z = blank secretCounts i in omega arith) (λ _. omega (arith, ok .promises .def 0 (ok .promises .limits .defs .0) .secrets));
         value = s .small (λ k. (let z = blank values k in omega arith));
         masks = λ k. (let z = blank signatures k in omega arith);
         blank = s .blank (λ k e. blank values k);
         fresh = λ k h. blank signatures k;
+        free = record {
+          nodes = other nodes root;
+          balances = other balances total;
+          set-numbers = other setNumbers 0;
+          alives = other lives 1;
+          live-or-dead = λ c. at-set (λ x. x ≤ 1) (P lives) 0 c 1 0 (let z = blank lives c in omega arith) (λ _. omega arith);
+        };
+        free-sets = record {
+          definitions = other definitions 0;
+          counts = other secretCounts (length vs);
+          secrets = free-secrets;
+          three-states = s .three-states (λ k. (let z = blank states k in omega arith));
+        };
+        unpaid = λ p h. blank payments p;
         lengths = record {
           nodes = simp length-set (long nodes);
           balances = simp length-set (long balances);
@@ -135,7 +158,7 @@ module _ (t vs : List ℕ) (ok : Ready t) (ev : length vs ≡ defEntryAt (held t
           alives = simp length-set (long lives);
           signeds = long signatures;
           definitions = simp length-set (long definitions);
-          counts = simp length-set (long counts);
+          counts = simp length-set (long secretCounts);
           values = s .values;
           states = s .states;
           paids = long payments;

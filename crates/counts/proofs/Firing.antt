@@ -13,7 +13,7 @@ use Rattle.bitml.specs.Ledger.{fire, refusal, after, Contract, noContract, cont
 use Rattle.bitml.specs.Ledger.{Ledger as Plain}
 use Rattle.bitml.specs.Limits.{within}
 use Rattle.bitml.specs.Balance.{locked}
-use Rattle.bitml.proofs.Lists.{and-i, and-false, and-true, and-no, ask-no, ask-yes}
+use Rattle.bitml.proofs.Lists.{at-set, and-i, and-false, and-true, and-no, ask-no, ask-yes}
 use Rattle.bitml.proofs.Balance.{dead-locked, getD-sum}
 use Rattle.tables.specs.Entries.{held, people, firstOf}
 use Rattle.tables.specs.SheetOf.{branchEntryAt, branchCount, branchNumber, actionOf, branchOf, sheetOf, sheetIn}
@@ -22,7 +22,7 @@ use Rattle.sheets.specs.Ready.{Ready}
 use Rattle.duties.specs.Duties.{covers, notYet}
 use Rattle.counts.specs.Book.{Book}
 use Rattle.counts.specs.View.{aliveAt, view, contractOf, setOf, signedBy}
-use Rattle.counts.specs.Fit.{Fit}
+use Rattle.counts.specs.Fit.{Fit, FreeContracts}
 use Rattle.counts.specs.Does.{Does, withAnswer}
 use Rattle.counts.specs.Steps.{Enabled}
 use Rattle.counts.proofs.Updates.{withPaid, dying}
@@ -125,6 +125,16 @@ module _ (t : List ℕ) (l : Book) (f : Fit t l) where
       let b = ap (λ k. k .balance) (contract-of t l c h) in
       omega arith
 
+-- what is not made yet stays as it was
+pub dying-free : {made : ℕ} {node balance set′ alive : List ℕ} (c : ℕ) → FreeContracts made node balance set′ alive → FreeContracts made node balance set′ (set alive c 0)
+dying-free {alive = alive} c g = record {
+  nodes = g .nodes;
+  balances = g .balances;
+  set-numbers = g .set-numbers;
+  alives = λ i h. at-set (λ x. x ≡ 0) alive c i 0 0 (g .alives i h) (λ _. refl);
+  live-or-dead = λ i. at-set (λ x. x ≤ 1) alive c i 0 0 (g .live-or-dead i) (λ _. omega arith);
+}
+
 -- ---- withdraw
 
 module _ (t : List ℕ) (l : Book) (c b q : ℕ) (ok : Ready t) (f : Fit t l) (r : Enabled t l c b q) where
@@ -198,6 +208,9 @@ module _ (t : List ℕ) (l : Book) (c b q : ℕ) (ok : Ready t) (f : Fit t l) (r
           masks = f .masks;
           blank = f .blank;
           fresh = f .fresh;
+          free = dying-free c (f .free);
+          free-sets = f .free-sets;
+          unpaid = λ p k. getD-set-other (l .paid) (branchEntryAt (held t) q .arg) p _ 0 (λ e. omega (arith, payee)) ∙ f .unpaid p k;
           lengths = record {
             nodes = f .lengths .nodes;
             balances = f .lengths .balances;

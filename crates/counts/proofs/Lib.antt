@@ -12,3 +12,4 @@ pub mod Storing
 pub mod Renewing
 pub mod Beginning
 pub mod Ending
+pub mod Cells

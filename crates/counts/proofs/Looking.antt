@@ -53,10 +53,13 @@ module _ (t : List ℕ) (l : Book) where
         masks = f .masks;
         blank = f .blank;
         fresh = f .fresh;
+        free = f .free;
+        free-sets = f .free-sets;
+        unpaid = f .unpaid;
         lengths = f .lengths;
       }
 
-  view-answer : (k : ℕ) → view (people t) (withAnswer l k) ≡ view (people t) l
+  pub view-answer : (k : ℕ) → view (people t) (withAnswer l k) ≡ view (people t) l
   unfolding view
   view-answer k = refl
 
@@ -134,7 +137,7 @@ module _ (t : List ℕ) (l : Book) where
   unfolding view
   contract-of c h = firstOf-getD (contractOf l) (l .made) c noContract h
 
-  contract-past : (c : ℕ) → l .made ≤ c → contractAt (view (people t) l) c ≡ noContract
+  pub contract-past : (c : ℕ) → l .made ≤ c → contractAt (view (people t) l) c ≡ noContract
   unfolding view
   contract-past c h = firstOf-past (contractOf l) (l .made) c noContract h
 
@@ -142,7 +145,7 @@ module _ (t : List ℕ) (l : Book) where
   unfolding view
   set-of i h = firstOf-getD (setOf l) (l .sets) i noSet h
 
-  set-past : (i : ℕ) → l .sets ≤ i → setAt (view (people t) l) i ≡ noSet
+  pub set-past : (i : ℕ) → l .sets ≤ i → setAt (view (people t) l) i ≡ noSet
   unfolding view
   set-past i h = firstOf-past (setOf l) (l .sets) i noSet h
 

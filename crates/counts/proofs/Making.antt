@@ -9,7 +9,7 @@ use lib.Seq.{getD-set-same, getD-set-other}
 use lib.Dec.{eqb}
 use borrow.Author.Tests.{ne-eqb}
 use Rattle.bitml.specs.Ledger.{Contract, newContract}
-use Rattle.bitml.proofs.Lists.{and-no}
+use Rattle.bitml.proofs.Lists.{at-set, and-no}
 use Rattle.bitml.proofs.Counting.{at-store}
 use Rattle.tables.specs.Entries.{held, firstOf}
 use Rattle.tables.proofs.Laws.{firstOf-more}
@@ -19,6 +19,7 @@ use Rattle.counts.specs.View.{contractOf, signedBy}
 use Rattle.counts.specs.Fit.{Fit}
 use Rattle.counts.specs.Steps.{Contracts}
 use Rattle.counts.proofs.Updates.{dying, pushed}
+use Rattle.counts.proofs.Firing.{dying-free}
 
 abbrev contractBy : ℕ → ℕ → ℕ → (ℕ → ℕ → Bool) → Bool → Contract
 contractBy n v i s a = record { node = n; balance = v; set = i; signed = s; alive = a }
@@ -32,6 +33,7 @@ dying-fits c f = record {
   node = f .node;
   set = f .set;
   fresh = f .fresh;
+  free = dying-free c (f .free);
   lengths = record {
     nodes = f .lengths .nodes;
     balances = f .lengths .balances;
@@ -56,12 +58,23 @@ unsigned masks c f = fun-ext λ b. fun-ext λ p.
     and-no _ _ (ap (λ x. eqb (x / 2 ^ p % 2) 1) (f (c * 16 + b) (omega arith)) ∙ ne-eqb (bit 0 p) 1 (λ (e : bit 0 p ≡ 1). let z = none-zero p in omega arith))
 
 module _ (t : List ℕ) (l : Book) (n v i : ℕ) (h : Contracts t l) (room : l .made < 256) where
+  -- behind the contract that is made nothing is
+  behind : (xs : List ℕ) (x : ℕ) → ((c : ℕ) → l .made ≤ c → getD xs c 0 ≡ 0) → (c : ℕ) → l .made + 1 ≤ c → getD (set xs (l .made) x) c 0 ≡ 0
+  behind xs x f c k = getD-set-other xs (l .made) c x 0 (λ e. omega arith) ∙ f c (omega arith)
+
   pub pushed-fits : n < length (held t .nodes) → i < l .sets → Contracts t (pushed l n v i)
   pushed-fits hn hi = record {
     made = omega arith;
     node = put-all (λ x. x < length (held t .nodes)) (l .node) (l .made) n (h .node) hn (omega (arith, h .lengths .nodes));
     set = put-all (λ x. x < l .sets) (l .set) (l .made) i (h .set) hi (omega (arith, h .lengths .set-numbers));
     fresh = λ k q. h .fresh k (omega arith);
+    free = record {
+      nodes = behind (l .node) n (h .free .nodes);
+      balances = behind (l .balance) v (h .free .balances);
+      set-numbers = behind (l .set) i (h .free .set-numbers);
+      alives = behind (l .alive) 1 (h .free .alives);
+      live-or-dead = λ c. at-set (λ x. x ≤ 1) (l .alive) (l .made) c 1 0 (h .free .live-or-dead c) (λ _. omega arith);
+    };
     lengths = record {
       nodes = simp length-set (h .lengths .nodes);
       balances = simp length-set (h .lengths .balances);

@@ -3,8 +3,9 @@ use Prim.Native.Nat.{ℕ, suc, _+_, _*_, _-_, _≤_, _<_}
 use mathlib.Core.Bool.{Bool, true, false}
 use mathlib.Core.Path.{_≡_, refl, sym, ap, ap₂, _∙_, subst}
 use mathlib.Core.List.{List, [], _∷_, _++_, map}
+use mathlib.Core.Logic.{⊎-elim}
 use native.Mathlib.Omega.{arith}
-use lib.ListN.{getD, length, length-set, length-map}
+use lib.ListN.{getD, set, length, length-set, length-map}
 use lib.Seq.{getD-set-same, getD-set-other}
 use lib.Dec.{eqb, leb}
 use borrow.Author.Tests.{leb-true, leb-false, le-leb, lt-leb, eq-eqb, ne-eqb}
@@ -28,9 +29,9 @@ use Rattle.counts.specs.Fit.{Fit}
 use Rattle.counts.specs.Does.{Does, withAnswer, renewal}
 use Rattle.counts.specs.Steps.{Enabled, Contracts, room, withSecrets, Stored}
 use Rattle.counts.proofs.Updates.{pushed, reset}
-use Rattle.counts.proofs.Looking.{refused, refused-by, passed, takes, total-after, deposits-after, live-is, contract-of, contracts-are, sets-are}
+use Rattle.counts.proofs.Looking.{same?, refused, refused-by, passed, takes, total-after, deposits-after, live-is, contract-of, contracts-are, sets-are}
 use Rattle.counts.proofs.Making.{pushed-fits, pushed-are, put-all}
-use Rattle.counts.proofs.Firing.{late, timely, renewal-entry, back-is, entry-below, kind-action, dying-are, balance-in}
+use Rattle.counts.proofs.Firing.{late, timely, renewal-entry, back-is, entry-below, kind-action, dying-are, dying-free, balance-in}
 use Rattle.counts.proofs.Storing.{commitments-are}
 
 pub room-is : (made sets taken more : ℕ) → room made sets taken more ≡ true → (made < 256) × (sets < 32) × (taken + more ≤ 2100000000000000)
@@ -154,6 +155,7 @@ module _ (t : List ℕ) (l : Book) (c b : ℕ) (vs : List ℕ) (q : ℕ) (ok : R
         node = f .node;
         set = λ i h. (let z = f .set i h in omega arith);
         fresh = f .fresh;
+        free = dying-free c (f .free);
         lengths = record {
           nodes = f .lengths .nodes;
           balances = f .lengths .balances;
@@ -191,6 +193,17 @@ module _ (t : List ℕ) (l : Book) (c b : ℕ) (vs : List ℕ) (q : ℕ) (ok : R
             ∙ firstOf-agree (secretOf R i) (secretOf l i) (getD (l .count) i 0) (λ j k.
             let p = s .other (i * 8 + j) (λ j′ q e. omega (arith, f .count i h)) in ap₂ commitmentOf (p .0) (p .1)))
 
+        -- places that no set has are not stored to
+        free-secrets : (i j : ℕ) → getD (set (l .count) (l .sets) (length vs)) i 0 ≤ j → j < 8 → getD st (i * 8 + j) 0 ≡ 0
+        free-secrets i j k hj = ⊎-elim
+            (λ (e : i ≡ l .sets).
+            let n : length vs ≤ j = subst (λ x. x ≤ j) (ap (λ i. getD (set (l .count) (l .sets) (length vs)) i 0) e ∙ getD-set-same (l .count) (l .sets) (length vs) 0 (omega (arith, hs, f .lengths .counts))) k in
+            s .other (i * 8 + j) (λ j′ q e′. omega arith) .0 ∙ f .free-sets .secrets i j (let z = f .free-sets .counts i (omega arith) in omega arith) hj)
+            (λ (ne : i ≡ l .sets → ⊥).
+            let n : getD (l .count) i 0 ≤ j = subst (λ x. x ≤ j) (getD-set-other (l .count) (l .sets) i (length vs) 0 ne) k in
+            s .other (i * 8 + j) (λ j′ q e′. ne (omega (arith, ok .promises .def D def-in .secrets))) .0 ∙ f .free-sets .secrets i j n hj)
+            (same? i (l .sets))
+
         renew-view : view (people t) R ≡ after (sheetIn t) is (renewal c b vs)
         unfolding after view
         renew-view = ap₂ (λ (cs : List Contract) (ss : List CommitmentSet). record { time = l .time; contracts = cs; sets = ss; paid = firstOf (λ p. getD (l .paid) p 0) (people t) })
@@ -218,6 +231,14 @@ module _ (t : List ℕ) (l : Book) (c b : ℕ) (vs : List ℕ) (q : ℕ) (ok : R
               masks = f .masks;
               blank = s .blank (f .blank);
               fresh = new-fits .fresh;
+              free = new-fits .free;
+              free-sets = record {
+                definitions = λ i k. getD-set-other (l .definition) (l .sets) i D 0 (λ e. omega arith) ∙ f .free-sets .definitions i (omega arith);
+                counts = λ i k. getD-set-other (l .count) (l .sets) i (length vs) 0 (λ e. omega arith) ∙ f .free-sets .counts i (omega arith);
+                secrets = free-secrets;
+                three-states = s .three-states (f .free-sets .three-states);
+              };
+              unpaid = f .unpaid;
               lengths = let h = new-fits .lengths in record {
                 nodes = h .nodes;
                 balances = h .balances;

@@ -19,8 +19,7 @@ use Rattle.sheets.specs.Ready.{Ready}
 use Rattle.truth.specs.Evaluation.{Values}
 use Rattle.duties.specs.Duties.{toldAt, numberAt}
 use Rattle.duties.proofs.Secrets.{number-in, number-past}
-use Rattle.pages.specs.Pages.{size, start, cellsLong, pagesIn, setNumbers, states, values}
-use Rattle.pages.specs.Pages.{counts as countsOf}
+use Rattle.pages.specs.Pages.{size, start, cellsLong, pagesIn, setNumbers, secretCounts, states, values}
 use Rattle.pages.proofs.Laws.{part-long, page-part}
 use Rattle.counts.specs.declared.Counts.{Counts}
 use Rattle.counts.specs.Book.{Book, book}
@@ -143,6 +142,9 @@ module _ (t : List ℕ) (l : Book) (c b q : ℕ) (ok : Ready t) (f : Fit t l) (r
               masks = f .masks;
               blank = f .blank;
               fresh = fits .fresh;
+              free = fits .free;
+              free-sets = f .free-sets;
+              unpaid = f .unpaid;
               lengths = fits .lengths;
             })
 
@@ -183,15 +185,15 @@ module _ (C : List ℕ) (h : cellsLong ≤ length C) where
   unfolding size start
   values-long = part-long C values 256 (omega arith) (omega arith)
 
-  module _ (c : ℕ) {i k : ℕ} (ei : i ≡ getD (pagesIn C setNumbers) c 0) (ek : k ≡ getD (pagesIn C countsOf) i 0) where
-    same-count : k ≡ getD (pagesIn C countsOf) (getD (pagesIn C setNumbers) c 0) 0
-    same-count = ek ∙ ap (λ i. getD (pagesIn C countsOf) i 0) ei
+  module _ (c : ℕ) {i k : ℕ} (ei : i ≡ getD (pagesIn C setNumbers) c 0) (ek : k ≡ getD (pagesIn C secretCounts) i 0) where
+    same-count : k ≡ getD (pagesIn C secretCounts) (getD (pagesIn C setNumbers) c 0) 0
+    same-count = ek ∙ ap (λ i. getD (pagesIn C secretCounts) i 0) ei
 
     -- over what the code read
-    pub told-read : (xs : List ℕ) → every (toldAt (take 256 (drop 1088 C)) (i * 8) k) xs ≡ every (toldAt (pagesIn C states) (getD (pagesIn C setNumbers) c 0 * 8) (getD (pagesIn C countsOf) (getD (pagesIn C setNumbers) c 0) 0)) xs
+    pub told-read : (xs : List ℕ) → every (toldAt (take 256 (drop 1088 C)) (i * 8) k) xs ≡ every (toldAt (pagesIn C states) (getD (pagesIn C setNumbers) c 0 * 8) (getD (pagesIn C secretCounts) (getD (pagesIn C setNumbers) c 0) 0)) xs
     told-read xs = rw (states-are, same-count, ei) refl
 
-    pub cond-read : (d : Cond) → holds (numberAt (take 256 (drop 1344 C)) (i * 8) k) d ≡ holds (numberAt (pagesIn C values) (getD (pagesIn C setNumbers) c 0 * 8) (getD (pagesIn C countsOf) (getD (pagesIn C setNumbers) c 0) 0)) d
+    pub cond-read : (d : Cond) → holds (numberAt (take 256 (drop 1344 C)) (i * 8) k) d ≡ holds (numberAt (pagesIn C values) (getD (pagesIn C setNumbers) c 0 * 8) (getD (pagesIn C secretCounts) (getD (pagesIn C setNumbers) c 0) 0)) d
     cond-read d = rw (values-are, same-count, ei) refl
 
   pub part-values : (t : List ℕ) (l : Counts) → Fit t (book l (pagesIn C)) → Values (take 256 (drop 1344 C))

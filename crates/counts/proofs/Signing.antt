@@ -160,6 +160,9 @@ module _ (t : List ℕ) (l : Book) (p c b : ℕ) (ok : Ready t) (f : Fit t l) wh
               masks = λ k. at-set (λ y. y ≤ 65535) (l .signed) (c * 16 + b) k _ 0 (f .masks k) (λ _. mask-room p (getD (l .signed) (c * 16 + b) 0) hp (f .masks (c * 16 + b)) refl z);
               blank = f .blank;
               fresh = fresh;
+              free = f .free;
+              free-sets = f .free-sets;
+              unpaid = f .unpaid;
               lengths = record {
                 nodes = f .lengths .nodes;
                 balances = f .lengths .balances;

@@ -232,6 +232,9 @@ module _ (t : List ℕ) (l : Book) (c b q : ℕ) (ok : Ready t) (f : Fit t l) (r
           masks = f .masks;
           blank = f .blank;
           fresh = k .fresh;
+          free = k .free;
+          free-sets = f .free-sets;
+          unpaid = f .unpaid;
           lengths = k .lengths;
         })
 

@@ -13,7 +13,7 @@ use Rattle.bitml.proofs.Lists.{at-set}
 use Rattle.tables.specs.Entries.{firstOf}
 use Rattle.tables.proofs.Laws.{firstOf-length, firstOf-getD}
 use Rattle.duties.specs.Duties.{committed, stateOf}
-use Rattle.pages.specs.Pages.{Pages, size, pagesIn, put, withSecret, nodes, balances, setNumbers, lives, definitions, counts, states, values, payments, signatures}
+use Rattle.pages.specs.Pages.{Pages, size, pagesIn, put, withSecret, nodes, balances, setNumbers, lives, definitions, secretCounts, states, values, payments, signatures}
 use Rattle.pages.proofs.Laws.{page-long}
 use Rattle.counts.specs.declared.Counts.{Counts}
 use Rattle.counts.specs.Book.{book}
@@ -40,7 +40,7 @@ commitments-are vs =
     (λ j h. getD-commit vs j ∙ sym (firstOf-getD f (length vs) j ill (subst (λ n. j < n) (length-commit vs) h)))
 
 stored-none : (state value : List ℕ) (i : ℕ) (vs : List ℕ) → length state ≡ 256 → length value ≡ 256 → Stored state value i vs 0 state value
-stored-none state value i vs hs hv = record { states = hs; values = hv; here = λ j h. absurd (omega arith); other = λ k h. (refl, refl); small = λ f. f; blank = λ f. f }
+stored-none state value i vs hs hv = record { states = hs; values = hv; here = λ j h. absurd (omega arith); other = λ k h. (refl, refl); small = λ f. f; blank = λ f. f; three-states = λ f. f }
 
 module _ {state value : List ℕ} (i : ℕ) (vs : List ℕ) (n : ℕ) (state′ value′ : List ℕ) (s : Stored state value i vs n state′ value′) (hi : i < 32) (hn : n < 8) (hv : getD vs n 0 ≤ 1000000001) where
   abbrev st : List ℕ
@@ -66,6 +66,11 @@ module _ {state value : List ℕ} (i : ℕ) (vs : List ℕ) (n : ℕ) (state′ 
   blank-zero zero e = omega arith
   blank-zero (suc v) e = absurd (omega arith)
 
+  few-states : (v : ℕ) → stateOf v ≤ 2
+  unfolding stateOf
+  few-states zero = omega arith
+  few-states (suc v) = omega arith
+
   stored-on : Stored state value i vs (n + 1) (set state′ (i * 8 + n) (stateOf (getD vs n 0))) (set value′ (i * 8 + n) (getD vs n 0 - 1))
   stored-on = record {
     states = simp length-set (s .states);
@@ -80,6 +85,7 @@ module _ {state value : List ℕ} (i : ℕ) (vs : List ℕ) (n : ℕ) (state′ 
         (λ (e : k ≡ i * 8 + n). ap (λ k. getD va k 0) e ∙ new-value ∙ blank-zero (getD vs n 0) (sym new-state ∙ sym (ap (λ k. getD st k 0) e) ∙ h))
         (λ (ne : k ≡ i * 8 + n → ⊥). same-value k ne ∙ s .blank f k (sym (same-state k ne) ∙ h))
         (same? k (i * 8 + n));
+    three-states = λ f k. at-set (λ y. y ≤ 2) state′ (i * 8 + n) k (stateOf (getD vs n 0)) 0 (s .three-states f k) (λ e. few-states (getD vs n 0));
   }
 
 -- ---- the same of pages
@@ -116,7 +122,7 @@ stored-book l {P} {Q = Q} s = λ k.
       alive = s .others lives (λ e. omega arith) (λ e. omega arith) k;
       signed = s .others signatures (λ e. omega arith) (λ e. omega arith) k;
       definition = s .others definitions (λ e. omega arith) (λ e. omega arith) k;
-      count = s .others counts (λ e. omega arith) (λ e. omega arith) k;
+      count = s .others secretCounts (λ e. omega arith) (λ e. omega arith) k;
       value = Q values;
       state = Q states;
       paid = s .others payments (λ e. omega arith) (λ e. omega arith) k;

@@ -64,6 +64,14 @@ module _ (t : List ℕ) (l : Book) (i j : ℕ) (ok : Ready t) (f : Fit t l) wher
         secrets-said = firstOf-set (secretOf l i) (secretOf said i) (getD (l .count) i 0) j _ ill k now-told
             (λ j′ hj n. ap (λ s. commitmentOf s (getD (l .value) (i * 8 + j′) 0)) (getD-set-other (l .state) (i * 8 + j) (i * 8 + j′) 2 0 (λ q. n (omega arith))))
 
+        -- a secret that is told is one that its set has
+        not-free : (i′ j′ : ℕ) → getD (l .count) i′ 0 ≤ j′ → j′ < 8 → i′ * 8 + j′ ≡ i * 8 + j → ⊥
+        not-free i′ j′ q hj e =
+            let few = f .count i h in
+            let same : i′ ≡ i = omega arith in
+            let n = ap (λ x. getD (l .count) x 0) same in
+            omega arith
+
         tell-view : view (people t) said ≡ after (sheetIn t) (view (people t) l) (tell i j)
         unfolding view after
         tell-view = ap (λ (ss : List CommitmentSet). record { time = l .time; contracts = firstOf (contractOf l) (l .made); sets = ss; paid = firstOf (λ p. getD (l .paid) p 0) (people t) })
@@ -91,6 +99,14 @@ module _ (t : List ℕ) (l : Book) (i j : ℕ) (ok : Ready t) (f : Fit t l) wher
               masks = f .masks;
               blank = λ x h. at-set (λ y. y ≡ 0 → getD (l .value) x 0 ≡ 0) (l .state) (i * 8 + j) x 2 0 (f .blank x) (λ _ q. absurd (omega arith)) h;
               fresh = f .fresh;
+              free = f .free;
+              free-sets = record {
+                definitions = f .free-sets .definitions;
+                counts = f .free-sets .counts;
+                secrets = λ i′ j′ q hj. getD-set-other (l .state) (i * 8 + j) (i′ * 8 + j′) 2 0 (λ e. not-free i′ j′ q hj e) ∙ f .free-sets .secrets i′ j′ q hj;
+                three-states = λ x. at-set (λ y. y ≤ 2) (l .state) (i * 8 + j) x 2 0 (f .free-sets .three-states x) (λ _. omega arith);
+              };
+              unpaid = f .unpaid;
               lengths = record {
                 nodes = f .lengths .nodes;
                 balances = f .lengths .balances;

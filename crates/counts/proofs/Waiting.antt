@@ -47,5 +47,8 @@ module _ (t : List ℕ) (l : Book) (d : ℕ) (ok : Ready t) (f : Fit t l) (h : 1
         masks = f .masks;
         blank = f .blank;
         fresh = f .fresh;
+        free = f .free;
+        free-sets = f .free-sets;
+        unpaid = f .unpaid;
         lengths = f .lengths;
       })

@@ -1,7 +1,7 @@
 -- The ledger with what its cells hold, as one record. Assumes nothing.
 use Prim.Native.Nat.{ℕ}
 use mathlib.Core.List.{List}
-use Rattle.pages.specs.Pages.{Pages, nodes, balances, setNumbers, lives, definitions, counts, states, values, payments, signatures}
+use Rattle.pages.specs.Pages.{Pages, nodes, balances, setNumbers, lives, definitions, secretCounts, states, values, payments, signatures}
 use Rattle.counts.specs.declared.Counts.{Counts}
 
 -- "State: time, contracts .., commitment sets .., paid amounts", with the answer to the last event, how many contracts and sets were made, and
@@ -38,7 +38,7 @@ book l P =
       alive = P lives;
       signed = P signatures;
       definition = P definitions;
-      count = P counts;
+      count = P secretCounts;
       value = P values;
       state = P states;
       paid = P payments;

@@ -13,7 +13,7 @@ use Rattle.duties.specs.Duties.{notYet, weightOf, stateOf}
 use Rattle.pages.specs.Pages.{Pages, states, values}
 use Rattle.counts.specs.Book.{Book}
 use Rattle.counts.specs.View.{aliveAt, contractOf}
-use Rattle.counts.specs.Fit.{Lengths}
+use Rattle.counts.specs.Fit.{Lengths, FreeContracts}
 
 -- "Contract alive": branch b of contract c is entry q of the sheet, and where there is no such contract or branch, q is 1,024, which is none
 pub record Finds (t : List ℕ) (made : ℕ) (node alive : List ℕ) (c b q : ℕ) : Type 0 where
@@ -34,6 +34,7 @@ pub record Contracts (t : List ℕ) (l : Book) : Type 0 where
   pub node : (c : ℕ) → c < l .made → getD (l .node) c 0 < length (held t .nodes)
   pub set : (c : ℕ) → c < l .made → getD (l .set) c 0 < l .sets
   pub fresh : (k : ℕ) → l .made * 16 ≤ k → getD (l .signed) k 0 ≡ 0
+  pub free : FreeContracts (l .made) (l .node) (l .balance) (l .set) (l .alive)
   pub lengths : Lengths (l .node) (l .balance) (l .set) (l .alive) (l .signed) (l .definition) (l .count) (l .value) (l .state) (l .paid)
 
 -- "A part of `s` gets floor(balance × weight / sum of weights); the last also the remainder": the contracts of a split of v by branch q
@@ -104,6 +105,7 @@ pub record Stored (state value : List ℕ) (i : ℕ) (vs : List ℕ) (n : ℕ) (
   pub other : (k : ℕ) → ((j : ℕ) → j < n → k ≡ i * 8 + j → ⊥) → (getD state′ k 0 ≡ getD state k 0) × (getD value′ k 0 ≡ getD value k 0)
   pub small : ((k : ℕ) → getD value k 0 ≤ 1000000000) → (k : ℕ) → getD value′ k 0 ≤ 1000000000
   pub blank : ((k : ℕ) → getD state k 0 ≡ 0 → getD value k 0 ≡ 0) → (k : ℕ) → getD state′ k 0 ≡ 0 → getD value′ k 0 ≡ 0
+  pub three-states : ((k : ℕ) → getD state k 0 ≤ 2) → (k : ℕ) → getD state′ k 0 ≤ 2
 
 -- The same of the pages, of which no others change
 pub record Stores (P : Pages) (i : ℕ) (vs : List ℕ) (n : ℕ) (Q : Pages) : Type 0 where

@@ -95,10 +95,11 @@ impl Counts {
     }
 
     // It is lent the cells as the others are, and writes none.
-    pub fn wait(mut self, t: &[usize], d: usize, cells: &mut [usize]) -> Counts
+    pub fn wait(mut self, cells: &mut [usize], t: &[usize], d: usize) -> Counts
         requires { ⌜ Ready (now t) ⌝ }
         requires { ⌜ Fit (now t) (book self (pagesIn (now cells))) ⌝ }
         requires { ⌜ (1 ≤ d) × (d ≤ 4294967295) ⌝ }
+        requires { ⌜ length (now cells) ≡ cellsLong ⌝ }
         ensures { λ r. ⌜ Does (now (t .entry)) (book self (pagesIn (now (cells .entry)))) (wait d) (book r (pagesIn (now (cells .exit)))) ⌝ }
     {
         let time = self.time;
@@ -114,18 +115,18 @@ impl Counts {
     // Participant p signs branch b of contract c.
     pub fn sign(
         mut self,
+        cells: &mut [usize],
         t: &[usize],
         x: &[usize],
         p: usize,
         c: usize,
         b: usize,
-        cells: &mut [usize],
     ) -> Counts
         requires { ⌜ Ready (now t) ⌝ }
         requires { ⌜ Indexed (held (now t)) (now x) ⌝ }
         requires { ⌜ Fit (now t) (book self (pagesIn (now cells))) ⌝ }
         requires { ⌜ p < people (now t) ⌝ }
-        requires { ⌜ cellsLong ≤ length (now cells) ⌝ }
+        requires { ⌜ length (now cells) ≡ cellsLong ⌝ }
         ensures { λ r. ⌜ Does (now (t .entry)) (book self (pagesIn (now (cells .entry)))) (sign p c b) (book r (pagesIn (now (cells .exit)))) ⌝ }
     {
         let q = live_branch(t, x, self.made, c, b, cells);
@@ -149,10 +150,10 @@ impl Counts {
     }
 
     // Secret j of set i is told.
-    pub fn tell(mut self, t: &[usize], i: usize, j: usize, cells: &mut [usize]) -> Counts
+    pub fn tell(mut self, cells: &mut [usize], t: &[usize], i: usize, j: usize) -> Counts
         requires { ⌜ Ready (now t) ⌝ }
         requires { ⌜ Fit (now t) (book self (pagesIn (now cells))) ⌝ }
-        requires { ⌜ cellsLong ≤ length (now cells) ⌝ }
+        requires { ⌜ length (now cells) ≡ cellsLong ⌝ }
         ensures { λ r. ⌜ Does (now (t .entry)) (book self (pagesIn (now (cells .entry)))) (tell i j) (book r (pagesIn (now (cells .exit)))) ⌝ }
     {
         let sets = self.sets;
@@ -178,16 +179,16 @@ impl Counts {
     // Branch b of contract c is fired.
     pub fn fire(
         mut self,
+        cells: &mut [usize],
         t: &[usize],
         x: &[usize],
         c: usize,
         b: usize,
-        cells: &mut [usize],
     ) -> Counts
         requires { ⌜ Ready (now t) ⌝ }
         requires { ⌜ Indexed (held (now t)) (now x) ⌝ }
         requires { ⌜ Fit (now t) (book self (pagesIn (now cells))) ⌝ }
-        requires { ⌜ cellsLong ≤ length (now cells) ⌝ }
+        requires { ⌜ length (now cells) ≡ cellsLong ⌝ }
         ensures { λ r. ⌜ Does (now (t .entry)) (book self (pagesIn (now (cells .entry)))) (fire c b) (book r (pagesIn (now (cells .exit)))) ⌝ }
     {
         let q = live_branch(t, x, self.made, c, b, cells);
@@ -218,18 +219,18 @@ impl Counts {
     // Branch b of contract c renews, with values for the new set.
     pub fn renew(
         mut self,
+        cells: &mut [usize],
         t: &[usize],
         x: &[usize],
         c: usize,
         b: usize,
         vs: &[usize],
-        cells: &mut [usize],
     ) -> Counts
         requires { ⌜ Ready (now t) ⌝ }
         requires { ⌜ Indexed (held (now t)) (now x) ⌝ }
         requires { ⌜ Fit (now t) (book self (pagesIn (now cells))) ⌝ }
         requires { ⌜ ((j : ℕ) → getD (now vs) j 0 ≤ 1000000001) ⌝ }
-        requires { ⌜ cellsLong ≤ length (now cells) ⌝ }
+        requires { ⌜ length (now cells) ≡ cellsLong ⌝ }
         ensures { λ r. ⌜ Does (now (t .entry)) (book self (pagesIn (now (cells .entry)))) (renewal c b (now (vs .entry))) (book r (pagesIn (now (cells .exit)))) ⌝ }
     {
         let q = live_branch(t, x, self.made, c, b, cells);

@@ -1,10 +1,10 @@
 // The event lines of `play`. One reader serves the reading of the whole request and the play after it.
+use fields::Got;
 use reader::first_from;
 use reader::line_end_from;
 use reader::number_below;
 use reader::number_between;
 use reader::number_up_to;
-use fields::Got;
 use requests::past_value;
 ghost use mathlib.Core.Path.{_≡_};
 ghost use Rattle.events.specs.Events.{pairAt, lastPairAt, waitAt, signAt, tellAt, fireAt, valuesAt, renewAt, eventAt, nextOf, eventsAt};
@@ -26,14 +26,15 @@ const RENEW: usize = (((b'r' as usize * 256 + b'e' as usize) * 256 + b'n' as usi
     * 256
     + b'w' as usize;
 
-const COMMA: u8 = b',';
-
 // The longest wait, the largest number of a contract, branch, set or secret, and the most values of a renewal.
 const LONGEST: usize = 4294967295;
 
 const LARGEST: usize = 65535;
 
 const VALUES: usize = 8;
+
+// The number of a refusal where a field is missing.
+const MISSING: usize = 2;
 
 // An event, and the position after its line; or a refusal.
 pub enum Event {
@@ -157,18 +158,19 @@ fn values(s: &[u8], from: usize) -> Got
     let mut at = from;
     let mut n = 0;
     while n < VALUES {
-        if s.len() <= at {
-            return Got::Value(n, at);
-        }
-        if s[at] != COMMA {
-            return Got::Value(n, at);
-        }
         let g = past_value(s, at);
-        let Got::Value(_, e) = g else {
-            return g;
-        };
-        at = e;
-        n += 1;
+        match g {
+            Got::Value(_, e) => {
+                at = e;
+                n += 1;
+            }
+            Got::Bad(m, _) => {
+                if m == MISSING {
+                    return Got::Value(n, at);
+                }
+                return g;
+            }
+        }
     }
     Got::Value(n, at)
 }

@@ -154,7 +154,7 @@ fn packed_of(text: &[u8]) -> usize
 }
 
 // The word that starts at `from`.
-fn word_from(s: &[u8], from: usize) -> Got
+fn bare_word(s: &[u8], from: usize) -> Got
     requires { ⌜ from ≤ length (now s) ⌝ }
     ensures { λ r. ⌜ r ≡ wordFrom (now (s .entry)) from ⌝ }
 {
@@ -183,7 +183,7 @@ pub fn word(s: &[u8], at: usize) -> Got
     if s[at] != COMMA {
         return Got::Bad(2, at);
     }
-    word_from(s, at + 1)
+    bare_word(s, at + 1)
 }
 
 // A line's first field, as a word.
@@ -193,7 +193,7 @@ pub fn first(s: &[u8], at: usize) -> Got
     if s.len() <= at {
         return Got::Bad(2, at);
     }
-    word_from(s, at)
+    bare_word(s, at)
 }
 
 // The LF at `at`.

@@ -1,6 +1,6 @@
 -- What the walks of the ledger's methods share: what a proof has at exit of a `Ledger` that was passed by value and is handed back (the result names its lifetime, so nothing is said of a last list), and the machine value of its counts.
 -- Assumes nothing; the laws take `Given`. m is how many lifetimes a signature has after 'a.
-use mathlib.Core.Path.{_≡_, refl, ap, sym, subst}
+use mathlib.Core.Path.{_≡_, refl, _∙_, ap, sym, subst}
 use Prim.Native.Nat.{ℕ, suc, _≤_}
 use native.Mathlib.Omega.{arith}
 use mathlib.Core.List.{List, [], _∷_}
@@ -28,12 +28,16 @@ use denote.Signature.Struct.{structAt, inStruct, makes}
 use denote.Struct.Laws as LL
 use denote.Struct.Rest.{all-own, own-open}
 use denote.Triple.Walked.{says, Stay, Fields, stay-none, stay-dropped, stay-struct-at, stay-declared, Goes, goes-none, goes-spent-slice, goes-struct-at, goes-declared}
+use Rattle.bitml.specs.Ledger.{Event}
 use Rattle.pages.specs.Pages.{cellsLong}
+use Rattle.pages.proofs.Laws.{same-cells}
 use Rattle.counts.specs.declared.Counts.{Counts}
+use Rattle.counts.specs.Does.{Does}
+use Rattle.counts.proofs.Cells.{told-after, same-after}
 use Rattle.counts.proofs.Counts as N
 use Rattle.counts.proofs.Counts.Laws as N′
 use Rattle.ledger.specs.declared.Ledger.{Ledger}
-use Rattle.ledger.specs.Hands.{Holds}
+use Rattle.ledger.specs.Hands.{bookOf, Holds, Hands}
 use Rattle.ledger.proofs.Ledger as T
 use Rattle.ledger.proofs.Ledger.Laws as T′
 use Rattle.ledger.proofs.Again.{LentAgain, lends-again, comes-back}
@@ -103,6 +107,16 @@ module _ (κ : Lft) (p : ℕ × ℕ) (γ : GName) where
 
   abbrev pub mach : Counts → ℕ → Val
   mach c n = vstruct (vcons (sliceVal p n) (vcons (N′.lowered c) vnil))
+
+  -- what a method hands back, of what it was asked and of what its callee says
+  pub hands : {t ys zs : List ℕ} {l r : Counts} {e : Event} → Holds t (ledger l ys) → Does t (bookOf (ledger l ys)) e (bookOf (ledger r zs)) → length zs ≡ length ys → Hands t (ledger l ys) e (ledger r zs)
+  hands {t} {ys} {zs} {l} {r} {e} k d long = record {
+    does = d;
+    told = told-after t l ys e r zs d;
+    long = long ∙ k .long;
+    same = λ h. same-cells zs ys (long ∙ k .long) (k .long) (same-after t l ys e r zs d (k .fit) h);
+    lent = refl;
+  }
 
   -- what is had at exit of a ledger that was taken, and of one that is handed back, at their fields' machine values
   abbrev had : Counts → List Val × (List Val × Unit {0}) → Fml

@@ -17,7 +17,7 @@ ghost use Rattle.counts.specs.Book.{book};
 ghost use Rattle.counts.specs.Fit.{Fit};
 ghost use Rattle.counts.specs.Does.{Does};
 ghost use Rattle.ledger.specs.Values.{valuesOf, Valued, Read};
-ghost use Rattle.ledger.specs.Hands.{bookOf, Holds, Hands, Begun};
+ghost use Rattle.ledger.specs.Hands.{Holds, Hands, Begun};
 
 // A value as one number, 0 for `x`, else one more than it; and the position after its field.
 pub struct Value {
@@ -57,7 +57,7 @@ fn values(s: &[u8], from: usize, n: usize, out: &mut [usize])
 // The counts at stipulation, with the values that stand in the request from `at` on, and cells that are still zero.
 fn begin(t: &[usize], s: &[u8], at: usize, cells: &mut [usize]) -> Counts
     requires { ⌜ Ready (now t) × (now cells ≡ replicate cellsLong 0) ⌝ }
-    ensures { λ r. ⌜ Begun (now (t .entry)) (valuesOf (now (s .entry)) at (defEntryAt (held (now (t .entry))) 0 .secrets)) (book r (pagesIn (now (cells .exit)))) ⌝ }
+    ensures { λ r. ⌜ Begun (now (t .entry)) (valuesOf (now (s .entry)) at (defEntryAt (held (now (t .entry))) 0 .secrets)) r (now (cells .exit)) ⌝ }
 {
     let n = def_secrets(t, 0);
     let mut vs = [0usize; Sheet::SECRETS];
@@ -68,6 +68,7 @@ fn begin(t: &[usize], s: &[u8], at: usize, cells: &mut [usize]) -> Counts
 // The counts after a renewal with the n values that stand in the request from `at` on.
 fn renew_from(
     l: Counts,
+    cells: &mut [usize],
     t: &[usize],
     x: &[usize],
     s: &[u8],
@@ -75,14 +76,13 @@ fn renew_from(
     b: usize,
     at: usize,
     n: usize,
-    cells: &mut [usize],
 ) -> Counts
-    requires { ⌜ Ready (now t) × Indexed (held (now t)) (now x) × Fit (now t) (book l (pagesIn (now cells))) × (n ≤ 8) × (cellsLong ≤ length (now cells)) ⌝ }
+    requires { ⌜ Ready (now t) × Indexed (held (now t)) (now x) × Fit (now t) (book l (pagesIn (now cells))) × (n ≤ 8) × (length (now cells) ≡ cellsLong) ⌝ }
     ensures { λ r. ⌜ Does (now (t .entry)) (book l (pagesIn (now (cells .entry)))) (renew c b (valuesOf (now (s .entry)) at n)) (book r (pagesIn (now (cells .exit)))) ⌝ }
 {
     let mut vs = [0usize; Sheet::SECRETS];
     values(s, at, n, &mut vs);
-    l.renew(t, x, c, b, &vs[..n], cells)
+    l.renew(cells, t, x, c, b, &vs[..n])
 }
 
 // The whole ledger: its contracts, sets and payments, in cells that are lent to it and are all its own, and its counts.
@@ -95,7 +95,7 @@ impl<'a> Ledger<'a> {
     // At stipulation: the values of its secrets stand in the request from `at` on, and the cells are still zero.
     pub fn new(cells: &'a mut [usize], t: &[usize], s: &[u8], at: usize) -> Ledger<'a>
         requires { ⌜ Ready (now t) × (now cells ≡ replicate cellsLong 0) ⌝ }
-        ensures { λ r. ⌜ Begun (now (t .entry)) (valuesOf (now (s .entry)) at (defEntryAt (held (now (t .entry))) 0 .secrets)) (bookOf r) × (length (now (r .cells)) ≡ cellsLong) × (r .cells ≡ at-last (cells .entry) (now (r .cells))) ⌝ }
+        ensures { λ r. ⌜ Begun (now (t .entry)) (valuesOf (now (s .entry)) at (defEntryAt (held (now (t .entry))) 0 .secrets)) (r .counts) (now (r .cells)) × (length (now (r .cells)) ≡ cellsLong) × (r .cells ≡ at-last (cells .entry) (now (r .cells))) ⌝ }
     {
         let counts = begin(t, s, at, &mut *cells);
         Ledger { cells, counts }
@@ -105,7 +105,7 @@ impl<'a> Ledger<'a> {
         requires { ⌜ Ready (now t) × Holds (now t) self × (1 ≤ d) × (d ≤ 4294967295) ⌝ }
         ensures { λ r. ⌜ Hands (now (t .entry)) (self .entry) (wait d) r ⌝ }
     {
-        let counts = self.counts.wait(t, d, &mut *self.cells);
+        let counts = self.counts.wait(&mut *self.cells, t, d);
         Ledger {
             cells: self.cells,
             counts,
@@ -117,7 +117,7 @@ impl<'a> Ledger<'a> {
         requires { ⌜ Ready (now t) × Holds (now t) self × Indexed (held (now t)) (now x) × (p < people (now t)) ⌝ }
         ensures { λ r. ⌜ Hands (now (t .entry)) (self .entry) (sign p c b) r ⌝ }
     {
-        let counts = self.counts.sign(t, x, p, c, b, &mut *self.cells);
+        let counts = self.counts.sign(&mut *self.cells, t, x, p, c, b);
         Ledger {
             cells: self.cells,
             counts,
@@ -129,7 +129,7 @@ impl<'a> Ledger<'a> {
         requires { ⌜ Ready (now t) × Holds (now t) self ⌝ }
         ensures { λ r. ⌜ Hands (now (t .entry)) (self .entry) (tell i j) r ⌝ }
     {
-        let counts = self.counts.tell(t, i, j, &mut *self.cells);
+        let counts = self.counts.tell(&mut *self.cells, t, i, j);
         Ledger {
             cells: self.cells,
             counts,
@@ -141,7 +141,7 @@ impl<'a> Ledger<'a> {
         requires { ⌜ Ready (now t) × Holds (now t) self × Indexed (held (now t)) (now x) ⌝ }
         ensures { λ r. ⌜ Hands (now (t .entry)) (self .entry) (fire c b) r ⌝ }
     {
-        let counts = self.counts.fire(t, x, c, b, &mut *self.cells);
+        let counts = self.counts.fire(&mut *self.cells, t, x, c, b);
         Ledger {
             cells: self.cells,
             counts,
@@ -162,7 +162,7 @@ impl<'a> Ledger<'a> {
         requires { ⌜ Ready (now t) × Holds (now t) self × Indexed (held (now t)) (now x) × (n ≤ 8) ⌝ }
         ensures { λ r. ⌜ Hands (now (t .entry)) (self .entry) (renew c b (valuesOf (now (s .entry)) at n)) r ⌝ }
     {
-        let counts = renew_from(self.counts, t, x, s, c, b, at, n, &mut *self.cells);
+        let counts = renew_from(self.counts, &mut *self.cells, t, x, s, c, b, at, n);
         Ledger {
             cells: self.cells,
             counts,

@@ -1,11 +1,11 @@
 // Line 1 and the `def` lines: the whole sheet, read into the table that the caller lends.
 use contracts::Limits;
 use contracts::contract;
+use fields::Got;
+use places::passing;
 use reader::first_from;
 use reader::line_end_from;
 use reader::number_between;
-use fields::Got;
-use places::passing;
 use steps::Read;
 use steps::end_line;
 use steps::first_word;

@@ -10,7 +10,7 @@ use sheets::listed_at;
 use sheets::node_definition;
 use tables::Action;
 use tables::mask_of;
-use truth::counts;
+use truth::counts_always;
 ghost use mathlib.Core.Path.{_≡_};
 ghost use mathlib.Core.List.{map};
 ghost use Prim.Native.Nat.{_+_, _≤_, _<_};
@@ -80,7 +80,7 @@ pub fn bar(t: &[usize], p: usize, n: usize, b: usize) -> usize
         return SECRET;
     }
     let c = branch_cond(t, b);
-    if !counts(t, c) {
+    if !counts_always(t, c) {
         return CONDITION;
     }
     0

@@ -58,6 +58,22 @@ module _ (C : List ℕ) (s : ℕ) where
   unfolding pagesIn
   page-part h = page-first (size s) (omega arith) h ∙ firstOf-agree (λ i. getD (pagesIn C s) i 0) (λ i. getD C (start s + i) 0) (size s) page-at
 
+-- ---- the sections are all that there is
+
+-- a place before section m is one of a section before it
+by-section : (m i : ℕ) (Q : Type 0) → i < start m → ((s k : ℕ) → k < size s → i ≡ start s + k → Q) → Q
+unfolding start
+by-section zero i Q h f = absurd (omega arith)
+by-section (suc m) i Q h f = by-cases (decLe (start m) i) (λ k. f m (i - start m) (omega arith) (omega arith)) (λ k. by-section m i Q (omega arith) f)
+
+-- so cells with the same lists are the same
+pub same-cells : (C D : List ℕ) → length C ≡ cellsLong → length D ≡ cellsLong → pagesIn C ≡ pagesIn D → C ≡ D
+unfolding start size
+same-cells C D hc hd e =
+    ext-getD 0 C D (hc ∙ sym hd)
+    (λ i h. by-section 10 i (getD C i 0 ≡ getD D i 0) (omega arith)
+    (λ s k l q. ap (λ j. getD C j 0) q ∙ sym (page-at C s k l) ∙ ap (λ P. getD (P s) k 0) e ∙ page-at D s k l ∙ sym (ap (λ j. getD D j 0) q)))
+
 -- ---- a store
 
 module _ (C : List ℕ) (s k v : ℕ) (h : k < size s) (l : start s + size s ≤ length C) where

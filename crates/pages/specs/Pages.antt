@@ -24,8 +24,8 @@ lives = 3
 abbrev pub definitions : ℕ
 definitions = 4
 
-abbrev pub counts : ℕ
-counts = 5
+abbrev pub secretCounts : ℕ
+secretCounts = 5
 
 abbrev pub states : ℕ
 states = 6
@@ -76,7 +76,7 @@ buried c P = put lives c 0 P
 
 -- Set i is made, of definition d with n secrets
 abbrev pub withSet : ℕ → ℕ → ℕ → Pages → Pages
-withSet i d n P = put counts i n (put definitions i d P)
+withSet i d n P = put secretCounts i n (put definitions i d P)
 
 -- Place k of secrets has a state and a value
 abbrev pub withSecret : ℕ → ℕ → ℕ → Pages → Pages

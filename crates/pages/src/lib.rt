@@ -4,7 +4,7 @@ ghost use mathlib.Core.Path.{_≡_};
 ghost use Prim.Native.Nat.{_+_, _*_, _≤_, _<_};
 ghost use lib.Dec.{eqb};
 ghost use lib.ListN.{length, getD};
-ghost use Rattle.pages.specs.Pages.{cellsLong, pagesIn, nodes, balances, setNumbers, lives, counts, states, payments, signatures, put, withContract, buried, withSet, withSecret};
+ghost use Rattle.pages.specs.Pages.{cellsLong, pagesIn, nodes, balances, setNumbers, lives, secretCounts, states, payments, signatures, put, withContract, buried, withSet, withSecret};
 
 // The limits of the program's ledger.
 pub const CONTRACTS: usize = 256;
@@ -79,7 +79,7 @@ pub fn signed_for(cells: &[usize], c: usize, b: usize) -> usize
 // How many secrets set i has.
 pub fn count_of(cells: &[usize], i: usize) -> usize
     requires { ⌜ (cellsLong ≤ length (now cells)) × (i < 32) ⌝ }
-    ensures { λ r. ⌜ r ≡ getD (pagesIn (now (cells .entry)) counts) i 0 ⌝ }
+    ensures { λ r. ⌜ r ≡ getD (pagesIn (now (cells .entry)) secretCounts) i 0 ⌝ }
 {
     cells[COUNT + i]
 }

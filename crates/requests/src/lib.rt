@@ -1,11 +1,11 @@
 // The last part of a request: `make`, `makeall`, `why`, `check` with its rows, `play` with its values.
+use fields::Got;
 use reader::first_from;
 use reader::line_end_from;
 use reader::number_below;
 use reader::number_between;
 use reader::number_up_to;
 use reader::word_from;
-use fields::Got;
 use tables::Sheet;
 ghost use mathlib.Core.Path.{_≡_};
 ghost use mathlib.Core.List.{[], _∷_, _++_};

@@ -1,9 +1,9 @@
 // How the sheet's reader goes on: a field is read, the position moves, and the counts of entries stay.
+use fields::Got;
 use reader::first_from;
 use reader::line_end_from;
 use reader::number_up_to;
 use reader::word_from;
-use fields::Got;
 use tables::St;
 ghost use mathlib.Core.Path.{_≡_};
 ghost use Rattle.fields.specs.Field.{numberAt, wordAt, firstAt, lineEndAt};

@@ -197,7 +197,7 @@ pub fn condition_holds(t: &[usize], c: usize, values: &[usize]) -> bool
 }
 
 // Whether the condition whose cells start at c counts as `t`: it names no secret, and is true.
-pub fn counts(t: &[usize], c: usize) -> bool
+pub fn counts_always(t: &[usize], c: usize) -> bool
     requires { ⌜ Ready (now t) ⌝ }
     requires { ⌜ c < length (held (now t) .cells) ⌝ }
     ensures { λ r. ⌜ r ≡ countsAlways (condAt (held (now (t .entry))) c) ⌝ }

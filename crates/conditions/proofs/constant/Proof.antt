@@ -1,4 +1,6 @@
-use Rattle.conditions.proofs.Laws.{ready-took, room, pays, kept-stored}
+use mathlib.Core.Path.{ap}
+use Prim.Native.Nat.{_+_}
+use Rattle.conditions.proofs.Laws.{ready-took, room, pays, kept-stored, store-within, leaves-refused, leaves-same}
 use Rattle.steps.proofs.Laws.{passed, refused, also, took-number}
 use Rattle.conditions.specs.Condition.{constantAt}
 use native.Mathlib.Omega.{arith}
@@ -19,7 +21,7 @@ returns : tie.Need-returns
 unfolding constantAt
 returns c =
     let c2 = c .before .before in
-    refused _ _ _ _ (c2 .num .ensures) (c .enum-told .given .1)
+    (refused _ _ _ _ (c2 .num .ensures) (c .enum-told .given .1), leaves-refused _ (c .enum-told .given .1))
 
 store-requires : tie.Need-store-requires
 store-requires c κs =
@@ -32,8 +34,11 @@ same-length c = search needs
 returns-2 : tie.Need-returns-2
 unfolding constantAt
 returns-2 c =
-    let c2 = c .before .before in let c5 = c2 .before .before .before in let c7 = c5 .before .before in let c10 = c7 .before .before .before in
-    let k = took-number _ (c7 .num .ensures) (c5 .g .given .1) in passed _ _ _ _ (c7 .num .ensures) (c5 .g .given .1) (also (λ e q. kept-stored (c10 .pre .1) k q) (c2 .store .ensures))
+    let c2 = c .before .before in let c5 = c2 .before .before .before in let c7 = c5 .before .before in
+    let c10 = c7 .before .before .before in
+    let k = took-number _ (c7 .num .ensures) (c5 .g .given .1) in
+    let e = ap (λ n. n + c10 .args .left) (k .cells) in
+    (passed _ _ _ _ (c7 .num .ensures) (c5 .g .given .1) (store-within _ _ _ e _ _ (also (λ e q. kept-stored (c10 .pre .1) k q) (c2 .store .ensures .0))), leaves-same _ e (c2 .store .ensures .1))
 
 pub constant-spec : {M : Type 1} → statement M
 constant-spec =

@@ -100,7 +100,6 @@ pub +branch+contract+reveal+split+weighed-spec : {M : Type 1} → statement M
     (reveal-needs.enum-told-2 t)
     (reveal-needs.same-length t)
     (reveal-needs.returns-3 t)
-    (reveal-needs.add-condition t)
     (reveal-needs.condition-requires t)
     (reveal-needs.enum-known-c t)
     (reveal-needs.enum-told-3 t)

@@ -8,12 +8,12 @@ returns : tie.Need-returns
 unfolding firstAt
 returns c = rw (le-ltb _ _ (c .if1 .taken))
 
-word-from-requires : tie.Need-word-from-requires
-word-from-requires c κs = search needs
+bare-word-requires : tie.Need-bare-word-requires
+bare-word-requires c κs = search needs
 
 returns-2 : tie.Need-returns-2
 unfolding firstAt
-returns-2 c = rw (lt-ltb _ _ (c .before .if1 .left)) (c .word-from .ensures)
+returns-2 c = rw (lt-ltb _ _ (c .before .if1 .left)) (c .bare-word .ensures)
 
 pub first-spec : {M : Type 1} → statement M
-first-spec = tie.close (tie.spec returns word-from-requires returns-2)
+first-spec = tie.close (tie.spec returns bare-word-requires returns-2)

@@ -15,17 +15,17 @@ returns-2 : tie.Need-returns-2
 unfolding wordAt
 returns-2 c = rw (lt-ltb _ _ (c .before .before .if1 .left), ne-eqb _ _ (c .if2 .taken))
 
-add-word-from : tie.Need-add-word-from
-add-word-from c = search needs
+add-bare-word : tie.Need-add-bare-word
+add-bare-word c = search needs
 
-word-from-requires : tie.Need-word-from-requires
-word-from-requires c κs = search needs
+bare-word-requires : tie.Need-bare-word-requires
+bare-word-requires c κs = search needs
 
 returns-3 : tie.Need-returns-3
 unfolding wordAt
-returns-3 c = rw (lt-ltb _ _ (c .before .before .before .if1 .left), eq-eqb _ _ (c .before .if2 .left)) (c .word-from .ensures)
+returns-3 c = rw (lt-ltb _ _ (c .before .before .before .if1 .left), eq-eqb _ _ (c .before .if2 .left)) (c .bare-word .ensures)
 
 pub word-spec : {M : Type 1} → statement M
 word-spec =
     tie.close
-    (tie.spec returns shared-slice-read-if2 returns-2 add-word-from word-from-requires returns-3)
+    (tie.spec returns shared-slice-read-if2 returns-2 add-bare-word bare-word-requires returns-3)

@@ -2,6 +2,8 @@ use mathlib.Core.Path.{sym, ap, _∙_}
 use native.Mathlib.Omega.{arith}
 use Rattle.bitml.specs.Ledger.{stipulated}
 use Rattle.tables.specs.SheetOf.{sheetIn}
+use Rattle.counts.specs.Cells.{laidOut}
+use Rattle.counts.proofs.Cells.{cells-are}
 use Rattle.ledger.specs.Values.{valuesOf}
 use Rattle.ledger.proofs.Reading.{values-are, values-most, values-long}
 use borrow.Author.Needs.{needs}
@@ -32,9 +34,11 @@ same-length c = search needs
 returns : tie.Need-returns
 returns c = let a = c .before .before .before .before .before .before .before .before .before .before .before .before .args in let t = a .t .now in
     let r = c .before .before .new .ensures in
+    let plain = r .plain ∙ ap (stipulated (sheetIn t)) (values-are (c .before .before .before .before .before .before .values .ensures) ∙ ap (valuesOf (a .s .now) (a .at)) (c .before .before .before .before .before .before .before .before .def-secrets .ensures)) in
     record {
       answer = r .answer;
-      plain = r .plain ∙ ap (stipulated (sheetIn t)) (values-are (c .before .before .before .before .before .before .values .ensures) ∙ ap (valuesOf (a .s .now) (a .at)) (c .before .before .before .before .before .before .before .before .def-secrets .ensures));
+      plain = plain;
+      told = cells-are t (c .before .before .new .result) _ (r .fit) ∙ ap laidOut plain;
       fit = r .fit;
     }
 

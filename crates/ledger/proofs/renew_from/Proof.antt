@@ -16,7 +16,7 @@ array-share-prefix-vs : tie.Need-array-share-prefix-vs
 array-share-prefix-vs c = search needs
 
 slice-aggregate-renew : tie.Need-slice-aggregate-renew
-slice-aggregate-renew c = values-long (c .before .before .values .ensures)
+slice-aggregate-renew c = values-long (c .before .before .before .values .ensures)
 
 renew-requires : tie.Need-renew-requires
 renew-requires c κs = let p = c .before .before .before .before .before .before .before .before .before .pre in (p .0, (p .1, (p .2, (values-most (c .before .before .before .values .ensures), p .4))))

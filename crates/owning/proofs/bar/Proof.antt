@@ -57,8 +57,8 @@ returns-4 c = let a = c .before .before .before .before .before .before .before 
 branch-cond-requires : tie.Need-branch-cond-requires
 branch-cond-requires c κs = search needs
 
-counts-requires : tie.Need-counts-requires
-counts-requires c κs = let p = c .before .before .before .before .before .before .before .before .before .before .before .before .pre in
+counts-always-requires : tie.Need-counts-always-requires
+counts-always-requires c κs = let p = c .before .before .before .before .before .before .before .before .before .before .before .before .pre in
     let k : branchEntryAt (held (c .before .before .before .before .before .before .before .before .before .before .before .before .args .t .now)) (c .before .before .before .before .before .before .before .before .before .before .before .before .args .b) .kind ≡ 2 = sym (c .before .before .before .before .before .before .before .before .branch-kind .ensures) ∙ c .before .before .before .before .before .before .if4 .left in
     (p .0, omega (arith, c .branch-cond .ensures, p .0 .promises .branch (c .before .before .before .before .before .before .before .before .before .before .before .before .args .b) (p .1 .2) .reveal k .cond))
 
@@ -67,7 +67,7 @@ returns-5 c = let a = c .before .before .before .before .before .before .before 
     let E = held (a .t .now) in
     let e = sym (c .before .before .before .before .before .before .before .before .before .before .before .before .branch-signers .ensures) in
     let k : branchEntryAt E (a .b) .kind ≡ 2 = sym (c .before .before .before .before .before .before .before .before .before .before .branch-kind .ensures) ∙ c .before .before .before .before .before .before .before .before .if4 .left in
-    let d = sym (c .before .counts .ensures ∙ ap (λ c. countsAlways (condAt E c)) (c .before .before .branch-cond .ensures)) in
+    let d = sym (c .before .counts-always .ensures ∙ ap (λ c. countsAlways (condAt E c)) (c .before .before .branch-cond .ensures)) in
     sym (bar-reveal (people (a .t .now)) E (a .p) (a .n) (a .b) (p .1 .1) (⊎-elim (λ w. inr (e ∙ w .2 .left ∙ w .1 .ensures)) (λ w. inl (e ∙ w .left)) (c .before .before .before .before .before .before .before .before .before .before .before .if1 .came)) k
     (rw (sym (c .before .before .before .before .before .before .before .node-definition .ensures), sym (c .before .before .before .before .before .before .branch-first .ensures), sym (c .before .before .before .before .before .branch-secrets .ensures)) (sym (c .before .before .before .before .owns-all .ensures) ∙ not-false _ (c .before .before .before .if5 .left)))
     ∙ ask-no _ _ _ (d ∙ not-true _ (c .if6 .taken)))
@@ -77,7 +77,7 @@ returns-6 c = let a = c .before .before .before .before .before .before .before 
     let E = held (a .t .now) in
     let e = sym (c .before .before .before .before .before .before .before .before .before .before .before .before .branch-signers .ensures) in
     let k : branchEntryAt E (a .b) .kind ≡ 2 = sym (c .before .before .before .before .before .before .before .before .before .before .branch-kind .ensures) ∙ c .before .before .before .before .before .before .before .before .if4 .left in
-    let d = sym (c .before .counts .ensures ∙ ap (λ c. countsAlways (condAt E c)) (c .before .before .branch-cond .ensures)) in
+    let d = sym (c .before .counts-always .ensures ∙ ap (λ c. countsAlways (condAt E c)) (c .before .before .branch-cond .ensures)) in
     sym (bar-reveal (people (a .t .now)) E (a .p) (a .n) (a .b) (p .1 .1) (⊎-elim (λ w. inr (e ∙ w .2 .left ∙ w .1 .ensures)) (λ w. inl (e ∙ w .left)) (c .before .before .before .before .before .before .before .before .before .before .before .if1 .came)) k
     (rw (sym (c .before .before .before .before .before .before .before .node-definition .ensures), sym (c .before .before .before .before .before .before .branch-first .ensures), sym (c .before .before .before .before .before .branch-secrets .ensures)) (sym (c .before .before .before .before .owns-all .ensures) ∙ not-false _ (c .before .before .before .if5 .left)))
     ∙ ask-yes _ _ _ (d ∙ not-false _ (c .if6 .left)))
@@ -98,6 +98,6 @@ bar-spec =
     owns-all-requires
     returns-4
     branch-cond-requires
-    counts-requires
+    counts-always-requires
     returns-5
     returns-6)

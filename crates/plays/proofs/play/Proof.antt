@@ -210,7 +210,7 @@ module _ {M : Type 1} (𝓤 : URA M) (H : Heap 𝓤) (A : Atoms 𝓤) (W : Given
   newᵃ k = qed W ((‵ (flft κ₀ q₀) ⊛ ‵ (flft κ₃ q₃) ⊛ ‵ (flft κ₂ q₂) ⊛ ‵ ftrue) ∷ ‵ (owns (MutSlice (named 0) κ₀ usize ∷ ShrSlice (named 1) κ₃ usize ∷ ShrSlice (named 2) κ₂ u8 ∷ usize ∷ []) (newᵖ) (newᵛ)) ∷ []) ∵ says ! k $ frame ! $ done !
 
   abbrev Made-it : Ledger → Type 0
-  Made-it r = Begun (t .now) values (bookOf r) × (length (now (r .cells)) ≡ cellsLong) × (r .cells ≡ at-last (y₀ cs) (now (r .cells)))
+  Made-it r = Begun (t .now) values (r .counts) (now (r .cells)) × (length (now (r .cells)) ≡ cellsLong) × (r .cells ≡ at-last (y₀ cs) (now (r .cells)))
 
   newˢ : (r : Ledger) → ent 𝓤 (ensured 𝓤 H A newᶠ.ended (newᶠ.clauses 𝓤 H A mem run) (κ₀, (κ₃, (κ₂, tt))) (newᵖ) tt r) (fact 𝓤 (Made-it r))
   newˢ r = exE 𝓤 _ (λ ws. snd∗ 𝓤 (sem 𝓤 H A (lasts newᶠ.ended (κ₀, (κ₃, (κ₂, tt))) newᵖ ws)) (fact 𝓤 (Made-it r)))

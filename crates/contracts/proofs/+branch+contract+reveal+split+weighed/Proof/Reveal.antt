@@ -1,7 +1,7 @@
 -- What is to be shown of `reveal`, place by place. Assumes nothing.
 use Rattle.contracts.proofs.Laws.{ready, ready-added, few-took, few-reveal, list-from, open-from, begin-reveal}
 use Rattle.contracts.specs.Contract.{revealAt}
-use Rattle.conditions.proofs.Laws.{ready-kept}
+use Rattle.conditions.proofs.Laws.{ready-kept, behind-part}
 use Rattle.steps.proofs.Laws.{passed, refused, yes′, no′, stop, called, call-refused, promised, took-number, most}
 use Rattle.tables.proofs.Laws.{cells-length}
 use borrow.Author.Tests.{eq-eqb, ne-eqb}
@@ -57,14 +57,6 @@ returns-3 t c =
     let c4 = c .before .before .before .before in let c6 = c4 .before .before in let c8 = c6 .before .before in let c10 = c8 .before .before in
     passed _ _ _ _ (c10 .num .ensures) (c8 .g .given .1) (no′ _ (ne-eqb _ _ (c6 .if1 .left)) (list-from _ _ _ _ _ _ _ _ _ _ (call-refused _ (c4 .list-all .ensures) (c .enum-told2 .given .1))))
 
-pub add-condition : (t : ℕ) → reveal-lts.Need-add-condition (reveal-callees t) (reveal-at t) reveal.Post
-add-condition t c =
-    let c5 = c .before .before .before .before .before in let c9 = c5 .before .before .before .before in let c11 = c9 .before .before in
-    let c14 = c11 .before .before .before in
-    let k = took-number _ (c11 .num .ensures) (c9 .g .given .1) in
-    let f = few-took (c14 .pre .1 .1 .0) k in
-    let l = promised (c5 .list-all .ensures) (c .before .l .given .1) in omega (arith, l .cells, f .few-cells, f .inside, f .short)
-
 pub condition-requires : (t : ℕ) → reveal-lts.Need-condition-requires (reveal-callees t) (reveal-at t) reveal.Post
 condition-requires t c κs =
     let c2 = c .before .before in let c6 = c2 .before .before .before .before in let c10 = c6 .before .before .before .before in
@@ -83,14 +75,14 @@ enum-told-3 t c = search needs
 pub same-length-2 : (t : ℕ) → reveal-lts.Need-same-length-2 (reveal-callees t) (reveal-at t) reveal.Post
 same-length-2 t c =
     let c4 = c .before .before .before .before in let c11 = c4 .before .before .before .before .before .before .before in
-    c4 .condition .kept .1 .1 .1 .1 .1 .0 ∙ c11 .list-all .kept .1 .1 .1 .1 .1 .0
+    c4 .condition .kept .1 .1 .1 .1 .0 ∙ c11 .list-all .kept .1 .1 .1 .1 .1 .0
 
 pub returns-4 : (t : ℕ) → reveal-lts.Need-returns-4 (reveal-callees t) (reveal-at t) reveal.Post
 unfolding revealAt
 returns-4 t c =
     let c4 = c .before .before .before .before in let c7 = c4 .before .before .before in let c11 = c7 .before .before .before .before in
     let c13 = c11 .before .before in let c15 = c13 .before .before in let c17 = c15 .before .before in
-    passed _ _ _ _ (c17 .num .ensures) (c15 .g .given .1) (no′ _ (ne-eqb _ _ (c13 .if1 .left)) (list-from _ _ _ _ _ _ _ _ _ _ (called _ (c11 .list-all .ensures) (c7 .l .given .1) (open-from _ _ _ _ _ _ _ (cells-length _ _) _ _ (call-refused _ (c4 .condition .ensures) (c .enum-told3 .given .1))))))
+    passed _ _ _ _ (c17 .num .ensures) (c15 .g .given .1) (no′ _ (ne-eqb _ _ (c13 .if1 .left)) (list-from _ _ _ _ _ _ _ _ _ _ (called _ (c11 .list-all .ensures) (c7 .l .given .1) (open-from _ _ _ _ _ _ _ (cells-length _ _) _ _ (call-refused _ (c4 .condition .ensures .met 64 (omega arith)) (c .enum-told3 .given .1))))))
 
 pub put-branch-requires : (t : ℕ) → reveal-lts.Need-put-branch-requires (reveal-callees t) (reveal-at t) reveal.Post
 put-branch-requires t c κs =
@@ -101,7 +93,7 @@ put-branch-requires t c κs =
     let f = few-took (c22 .pre .1 .1 .0) k in
     let l = promised (c13 .list-all .ensures) (c9 .l .given .1) in
     let d = ready-added (ready f) l (omega (arith, f .few-branches)) (omega (arith, f .few-listed, f .few-defs, k .branches, c22 .pre .1 .1 .1, most _ _ _ (c19 .num .ensures) (c17 .g .given .1))) in
-    let q = promised (c6 .condition .ensures) (c2 .c .given .1) in (omega (arith, c6 .condition .kept .1 .1 .1 .1 .1 .0, c13 .list-all .kept .1 .1 .1 .1 .1 .0, c22 .pre .1 .0), (ready-kept d q .fits, omega (arith, q .same-branches, l .branches, k .branches, c22 .pre .1 .1 .1)))
+    let q = behind-part (c6 .condition .ensures) (c2 .c .given .1) .kept in (omega (arith, c6 .condition .kept .1 .1 .1 .1 .0, c13 .list-all .kept .1 .1 .1 .1 .1 .0, c22 .pre .1 .0), (ready-kept d q .fits, omega (arith, q .same-branches, l .branches, k .branches, c22 .pre .1 .1 .1)))
 
 pub contract-requires : (t : ℕ) → reveal-lts.Need-contract-requires (reveal-callees t) (reveal-at t) reveal.Post
 contract-requires t c κs =
@@ -111,13 +103,13 @@ contract-requires t c κs =
     let k = took-number _ (c23 .num .ensures) (c21 .g .given .1) in
     let f = few-took (c26 .pre .1 .1 .0) k in
     let l = promised (c17 .list-all .ensures) (c13 .l .given .1) in
-    let q = promised (c10 .condition .ensures) (c6 .c .given .1) in (omega (arith, c26 .pre .0), (omega (arith, c3 .put-branch .kept .0, c10 .condition .kept .1 .1 .1 .1 .1 .0, c17 .list-all .kept .1 .1 .1 .1 .1 .0, c26 .pre .1 .0), few-reveal f (omega (arith, k .branches, c26 .pre .1 .1 .1)) (most _ _ _ (c23 .num .ensures) (c21 .g .given .1)) l q (c3 .put-branch .ensures .0)))
+    let q = behind-part (c10 .condition .ensures) (c6 .c .given .1) .kept in (omega (arith, c26 .pre .0), (omega (arith, c3 .put-branch .kept .0, c10 .condition .kept .1 .1 .1 .1 .0, c17 .list-all .kept .1 .1 .1 .1 .1 .0, c26 .pre .1 .0), few-reveal f (omega (arith, k .branches, c26 .pre .1 .1 .1)) (most _ _ _ (c23 .num .ensures) (c21 .g .given .1)) l q (c3 .put-branch .ensures .0)))
 
 pub same-length-3 : (t : ℕ) → reveal-lts.Need-same-length-3 (reveal-callees t) (reveal-at t) reveal.Post
 same-length-3 t c =
     let c2 = c .before .before in let c6 = c2 .before .before .before .before in let c13 = c6 .before .before .before .before .before .before .before in
     let c20 = c13 .before .before .before .before .before .before .before in
-    c2 .contract .kept .1 .1 .1 .1 .1 .1 .0 ∙ c6 .put-branch .kept .0 ∙ c13 .condition .kept .1 .1 .1 .1 .1 .0 ∙ c20 .list-all .kept .1 .1 .1 .1 .1 .0
+    c2 .contract .kept .1 .1 .1 .1 .1 .1 .0 ∙ c6 .put-branch .kept .0 ∙ c13 .condition .kept .1 .1 .1 .1 .0 ∙ c20 .list-all .kept .1 .1 .1 .1 .1 .0
 
 pub returns-5 : (t : ℕ) → reveal-lts.Need-returns-5 (reveal-callees t) (reveal-at t) reveal.Post
 unfolding revealAt
@@ -125,4 +117,4 @@ returns-5 t c =
     let c2 = c .before .before in let c6 = c2 .before .before .before .before in let c9 = c6 .before .before .before in
     let c13 = c9 .before .before .before .before in let c16 = c13 .before .before .before in let c20 = c16 .before .before .before .before in
     let c22 = c20 .before .before in let c24 = c22 .before .before in let c26 = c24 .before .before in
-    passed _ _ _ _ (c26 .num .ensures) (c24 .g .given .1) (no′ _ (ne-eqb _ _ (c22 .if1 .left)) (list-from _ _ _ _ _ _ _ _ _ _ (called _ (c20 .list-all .ensures) (c16 .l .given .1) (open-from _ _ _ _ _ _ _ (cells-length _ _) _ _ (called _ (c13 .condition .ensures) (c9 .c .given .1) (begin-reveal _ _ _ _ _ _ _ _ _ _ (c6 .put-branch .ensures .1) _ _ (c2 .contract .ensures)))))))
+    passed _ _ _ _ (c26 .num .ensures) (c24 .g .given .1) (no′ _ (ne-eqb _ _ (c22 .if1 .left)) (list-from _ _ _ _ _ _ _ _ _ _ (called _ (c20 .list-all .ensures) (c16 .l .given .1) (open-from _ _ _ _ _ _ _ (cells-length _ _) _ _ (called _ (c13 .condition .ensures .met 64 (omega arith)) (c9 .c .given .1) (begin-reveal _ _ _ _ _ _ _ _ _ _ (c6 .put-branch .ensures .1) _ _ (c2 .contract .ensures)))))))

@@ -12,7 +12,7 @@ use Rattle.counts.proofs.Counts.fire.Statement.{statement}
 use Rattle.counts.proofs.Counts.fire.Tie as tie
 
 live-branch-requires : tie.Need-live-branch-requires
-live-branch-requires c κs = search needs
+live-branch-requires c κs = (search needs, (search needs, ((omega arith, search needs), search needs)))
 
 same-length : tie.Need-same-length
 same-length c = search needs
@@ -31,7 +31,7 @@ returns-2 c = let p = c .before .before .before .before .before .before .before 
     fire-renewal _ _ _ _ (p .0) (p .1 .1 .0) (k .0) (k .1) (k .2) _ (k .3) (sym (c .before .branch-kind .ensures) ∙ c .if2 .taken)
 
 signed-for-requires : tie.Need-signed-for-requires
-signed-for-requires c κs = let p = c .before .before .before .before .before .before .before .before .before .pre in let k = c .before .before .before .before .live-branch .ensures .some (c .before .before .before .if1 .left) in let w = few-branches _ _ _ (p .0) (p .1 .1 .0) (k .0) in (p .1 .1 .1, omega (arith, p .1 .1 .0 .made, k .0), omega (arith, k .2, w))
+signed-for-requires c κs = let p = c .before .before .before .before .before .before .before .before .before .pre in let k = c .before .before .before .before .live-branch .ensures .some (c .before .before .before .if1 .left) in let w = few-branches _ _ _ (p .0) (p .1 .1 .0) (k .0) in (omega (arith, p .1 .1 .1), omega (arith, p .1 .1 .0 .made, k .0), omega (arith, k .2, w))
 
 held-back-requires : tie.Need-held-back-requires
 held-back-requires c κs = let k = c .before .before .before .before .before .live-branch .ensures .some (c .before .before .before .before .if1 .left) in (c .before .before .before .before .before .before .before .before .before .before .pre .0, entry-small (c .before .before .before .before .before .before .before .before .before .before .args .t .now) _ (c .before .before .before .before .before .before .before .before .before .before .args .b) (k .3) (k .2))
@@ -46,7 +46,7 @@ returns-3 c = let a = c .before .before .before .before .before .before .before 
 withdraw-requires : tie.Need-withdraw-requires
 withdraw-requires c κs = let a = c .before .before .before .before .before .before .before .before .before .before .before .before .before .before .args in let p = c .before .before .before .before .before .before .before .before .before .before .before .before .before .before .pre in let k = c .before .before .before .before .before .before .before .before .before .live-branch .ensures .some (c .before .before .before .before .before .before .before .before .if1 .left) in
     let d = enabled-by (a .t .now) (book (a .self) (pagesIn (a .cells .now))) (a .c) (a .b) (c .before .before .before .before .before .before .before .before .before .live-branch .result) (k .0) (k .1) (k .2) (k .3) (c .before .before .before .held-back .ensures ∙ ap (λ m. notYet (people (a .t .now)) (held (a .t .now)) (c .before .before .before .before .before .before .before .before .before .live-branch .result) (a .self .time) m) (c .before .before .before .before .signed-for .ensures)) (c .before .before .if3 .left) in
-    (p .0, (p .1 .1 .0, (d, (sym (c .before .before .before .before .before .before .before .branch-kind .ensures) ∙ c .before .if4 .taken, p .1 .1 .1))))
+    (p .0, (p .1 .1 .0, (d, (sym (c .before .before .before .before .before .before .before .branch-kind .ensures) ∙ c .before .if4 .taken, omega (arith, p .1 .1 .1)))))
 
 same-length-4 : tie.Need-same-length-4
 same-length-4 c = search needs
@@ -57,7 +57,7 @@ returns-4 c = search needs
 split-requires : tie.Need-split-requires
 split-requires c κs = let a = c .before .before .before .before .before .before .before .before .before .before .before .before .before .before .before .args in let p = c .before .before .before .before .before .before .before .before .before .before .before .before .before .before .before .pre in let k = c .before .before .before .before .before .before .before .before .before .before .live-branch .ensures .some (c .before .before .before .before .before .before .before .before .before .if1 .left) in
     let d = enabled-by (a .t .now) (book (a .self) (pagesIn (a .cells .now))) (a .c) (a .b) (c .before .before .before .before .before .before .before .before .before .before .live-branch .result) (k .0) (k .1) (k .2) (k .3) (c .before .before .before .before .held-back .ensures ∙ ap (λ m. notYet (people (a .t .now)) (held (a .t .now)) (c .before .before .before .before .before .before .before .before .before .before .live-branch .result) (a .self .time) m) (c .before .before .before .before .before .signed-for .ensures)) (c .before .before .before .if3 .left) in
-    (p .0, (p .1 .0, (p .1 .1 .0, (d, (sym (c .before .before .before .before .before .before .before .before .branch-kind .ensures) ∙ c .before .if5 .taken, p .1 .1 .1)))))
+    (p .0, (p .1 .0, (p .1 .1 .0, (d, (sym (c .before .before .before .before .before .before .before .before .branch-kind .ensures) ∙ c .before .if5 .taken, omega (arith, p .1 .1 .1))))))
 
 same-length-5 : tie.Need-same-length-5
 same-length-5 c = search needs
@@ -71,7 +71,7 @@ reveal-requires c κs = let a = c .before .before .before .before .before .befor
     let most = p .0 .promises .branch q (entry-small (a .t .now) _ (a .b) (k .3) (k .2)) .kind in
     let e = c .before .before .before .before .before .before .before .before .branch-kind .ensures in let n3 = c .before .before .before .before .before .before .before .if2 .left in let n0 = c .before .before .if4 .left in let n1 = c .before .if5 .left in
     let w : branchEntryAt (held (a .t .now)) q .kind ≡ 2 = omega arith in
-    (p .0, (p .1 .1 .0, (d, (w, p .1 .1 .1))))
+    (p .0, (p .1 .1 .0, (d, (w, omega (arith, p .1 .1 .1)))))
 
 same-length-6 : tie.Need-same-length-6
 same-length-6 c = search needs

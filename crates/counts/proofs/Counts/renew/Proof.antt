@@ -12,7 +12,7 @@ use Rattle.counts.proofs.Counts.renew.Statement.{statement}
 use Rattle.counts.proofs.Counts.renew.Tie as tie
 
 live-branch-requires : tie.Need-live-branch-requires
-live-branch-requires c κs = search needs
+live-branch-requires c κs = (search needs, (search needs, ((omega arith, search needs), search needs)))
 
 same-length : tie.Need-same-length
 same-length c = search needs
@@ -31,7 +31,7 @@ returns-2 c = let p = c .before .before .before .before .before .before .before 
     renew-other _ _ _ _ (c .before .before .before .before .before .before .before .before .before .args .vs .now) (p .0) (p .1 .1 .0) (k .0) (k .1) (k .2) _ (k .3) (λ e. c .if2 .taken (c .before .branch-kind .ensures ∙ e))
 
 signed-for-requires : tie.Need-signed-for-requires
-signed-for-requires c κs = let p = c .before .before .before .before .before .before .before .before .before .before .pre in let k = c .before .before .before .before .live-branch .ensures .some (c .before .before .before .if1 .left) in let w = few-branches _ _ _ (p .0) (p .1 .1 .0) (k .0) in (p .1 .1 .1 .1, omega (arith, p .1 .1 .0 .made, k .0), omega (arith, k .2, w))
+signed-for-requires c κs = let p = c .before .before .before .before .before .before .before .before .before .before .pre in let k = c .before .before .before .before .live-branch .ensures .some (c .before .before .before .if1 .left) in let w = few-branches _ _ _ (p .0) (p .1 .1 .0) (k .0) in (omega (arith, p .1 .1 .1 .1), omega (arith, p .1 .1 .0 .made, k .0), omega (arith, k .2, w))
 
 held-back-requires : tie.Need-held-back-requires
 held-back-requires c κs = let k = c .before .before .before .before .before .live-branch .ensures .some (c .before .before .before .before .if1 .left) in (c .before .before .before .before .before .before .before .before .before .before .before .pre .0, entry-small (c .before .before .before .before .before .before .before .before .before .before .before .args .t .now) _ (c .before .before .before .before .before .before .before .before .before .before .before .args .b) (k .3) (k .2))
@@ -46,7 +46,7 @@ returns-3 c = let a = c .before .before .before .before .before .before .before 
 renew-as-requires : tie.Need-renew-as-requires
 renew-as-requires c κs = let a = c .before .before .before .before .before .before .before .before .before .before .before .before .before .before .args in let p = c .before .before .before .before .before .before .before .before .before .before .before .before .before .before .pre in let k = c .before .before .before .before .before .before .before .before .live-branch .ensures .some (c .before .before .before .before .before .before .before .if1 .left) in
     let d = enabled-by (a .t .now) (book (a .self) (pagesIn (a .cells .now))) (a .c) (a .b) (c .before .before .before .before .before .before .before .before .live-branch .result) (k .0) (k .1) (k .2) (k .3) (c .before .before .held-back .ensures ∙ ap (λ m. notYet (people (a .t .now)) (held (a .t .now)) (c .before .before .before .before .before .before .before .before .live-branch .result) (a .self .time) m) (c .before .before .before .signed-for .ensures)) (c .before .if3 .left) in
-    (p .0, (p .1 .1 .0, (d, (sym (c .before .before .before .before .before .before .branch-kind .ensures) ∙ c .before .before .before .before .before .if2 .left, (p .1 .1 .1 .0, p .1 .1 .1 .1)))))
+    (p .0, (p .1 .1 .0, (d, (sym (c .before .before .before .before .before .before .branch-kind .ensures) ∙ c .before .before .before .before .before .if2 .left, (p .1 .1 .1 .0, omega (arith, p .1 .1 .1 .1))))))
 
 same-length-4 : tie.Need-same-length-4
 same-length-4 c = search needs

@@ -6,7 +6,7 @@ use native.Mathlib.Omega.{arith}
 use mathlib.Core.Path.{sym, ap, _∙_}
 use borrow.Author.Tests.{not-true, not-false}
 use lib.ListN.{getD}
-use Rattle.pages.specs.Pages.{pagesIn, counts}
+use Rattle.pages.specs.Pages.{pagesIn, secretCounts}
 use Rattle.counts.specs.Book.{book}
 use Rattle.counts.proofs.Revealing.{r-numbers, r-untold, r-false, r-full, r-taken-by, told-by, cond-by, told-read, cond-read, part-values, states-long, values-long}
 use borrow.Author.Needs.{needs}
@@ -38,7 +38,7 @@ part-all-told-end : tie.Need-part-all-told-end
 part-all-told-end c = search needs
 
 all-told-requires : tie.Need-all-told-requires
-all-told-requires c κs = let a = c .before .before .before .before .before .before .before .before .before .before .args in let p = c .before .before .before .before .before .before .before .before .before .before .pre in let n = r-numbers (a .t .now) (book (a .self) (pagesIn (a .cells .now))) (a .c) (a .b) (a .q) (p .0) (p .1 .0) (p .1 .1 .0) (p .1 .1 .1 .0) in let s = c .before .before .before .before .before .before .set-of .ensures in let k = c .before .before .before .before .count-of .ensures ∙ ap (λ i. getD (pagesIn (a .cells .now) counts) i 0) (c .before .before .before .before .before .before .set-of .ensures) in (p .0, (omega (arith, n .3, states-long (a .cells .now) (p .1 .1 .1 .1)), omega (arith, n .4, c .before .before .before .branch-first .ensures, c .before .before .branch-secrets .ensures)))
+all-told-requires c κs = let a = c .before .before .before .before .before .before .before .before .before .before .args in let p = c .before .before .before .before .before .before .before .before .before .before .pre in let n = r-numbers (a .t .now) (book (a .self) (pagesIn (a .cells .now))) (a .c) (a .b) (a .q) (p .0) (p .1 .0) (p .1 .1 .0) (p .1 .1 .1 .0) in let s = c .before .before .before .before .before .before .set-of .ensures in let k = c .before .before .before .before .count-of .ensures ∙ ap (λ i. getD (pagesIn (a .cells .now) secretCounts) i 0) (c .before .before .before .before .before .before .set-of .ensures) in (p .0, (omega (arith, n .3, states-long (a .cells .now) (p .1 .1 .1 .1)), omega (arith, n .4, c .before .before .before .branch-first .ensures, c .before .before .branch-secrets .ensures)))
 
 same-length : tie.Need-same-length
 same-length c = search needs
@@ -60,7 +60,7 @@ part-holds-for-end : tie.Need-part-holds-for-end
 part-holds-for-end c = search needs
 
 holds-for-requires : tie.Need-holds-for-requires
-holds-for-requires c κs = let a = c .before .before .before .before .before .before .before .before .before .before .before .before .before .before .before .args in let p = c .before .before .before .before .before .before .before .before .before .before .before .before .before .before .before .pre in let n = r-numbers (a .t .now) (book (a .self) (pagesIn (a .cells .now))) (a .c) (a .b) (a .q) (p .0) (p .1 .0) (p .1 .1 .0) (p .1 .1 .1 .0) in let s = c .before .before .before .before .before .before .before .before .before .before .before .set-of .ensures in let k = c .before .before .before .before .before .before .before .before .before .count-of .ensures ∙ ap (λ i. getD (pagesIn (a .cells .now) counts) i 0) (c .before .before .before .before .before .before .before .before .before .before .before .set-of .ensures) in let z = values-long (a .cells .now) (p .1 .1 .1 .1) in
+holds-for-requires c κs = let a = c .before .before .before .before .before .before .before .before .before .before .before .before .before .before .before .args in let p = c .before .before .before .before .before .before .before .before .before .before .before .before .before .before .before .pre in let n = r-numbers (a .t .now) (book (a .self) (pagesIn (a .cells .now))) (a .c) (a .b) (a .q) (p .0) (p .1 .0) (p .1 .1 .0) (p .1 .1 .1 .0) in let s = c .before .before .before .before .before .before .before .before .before .before .before .set-of .ensures in let k = c .before .before .before .before .before .before .before .before .before .count-of .ensures ∙ ap (λ i. getD (pagesIn (a .cells .now) secretCounts) i 0) (c .before .before .before .before .before .before .before .before .before .before .before .set-of .ensures) in let z = values-long (a .cells .now) (p .1 .1 .1 .1) in
     (p .0, ((omega (arith, n .3), omega arith, omega (arith, n .5, c .before .before .branch-cond .ensures)), part-values (a .cells .now) (p .1 .1 .1 .1) (a .t .now) (a .self) (p .1 .0)))
 
 same-length-2 : tie.Need-same-length-2

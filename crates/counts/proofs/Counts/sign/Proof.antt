@@ -12,7 +12,7 @@ use Rattle.counts.proofs.Counts.sign.Statement.{statement}
 use Rattle.counts.proofs.Counts.sign.Tie as tie
 
 live-branch-requires : tie.Need-live-branch-requires
-live-branch-requires c κs = search needs
+live-branch-requires c κs = (search needs, (search needs, ((omega arith, search needs), search needs)))
 
 same-length : tie.Need-same-length
 same-length c = search needs
@@ -34,7 +34,7 @@ returns-2 c = let p = c .before .before .before .before .before .before .before 
     sign-stranger-by _ _ _ _ _ (p .0) (p .1 .1 .0) (k .0) (k .1) (k .2) (k .3) (c .before .before .branch-signers .ensures) (c .before .signs .ensures) (not-true _ (c .if2 .taken))
 
 signed-for-requires : tie.Need-signed-for-requires
-signed-for-requires c κs = let p = c .before .before .before .before .before .before .before .before .before .before .pre in let k = c .before .before .before .before .before .live-branch .ensures .some (c .before .before .before .before .if1 .left) in let w = few-branches _ _ _ (p .0) (p .1 .1 .0) (k .0) in (p .1 .1 .1 .1, omega (arith, p .1 .1 .0 .made, k .0), omega (arith, k .2, w))
+signed-for-requires c κs = let p = c .before .before .before .before .before .before .before .before .before .before .pre in let k = c .before .before .before .before .before .live-branch .ensures .some (c .before .before .before .before .if1 .left) in let w = few-branches _ _ _ (p .0) (p .1 .1 .0) (k .0) in (omega (arith, p .1 .1 .1 .1), omega (arith, p .1 .1 .0 .made, k .0), omega (arith, k .2, w))
 
 signs-requires-2 : tie.Need-signs-requires-2
 signs-requires-2 c κs = search needs
@@ -54,7 +54,7 @@ add-put-signed c = let a = c .before .before .before .before .before .before .be
     omega (arith, mask-room (a .p) (c .before .before .before .before .signed-for .result) (omega (arith, p .1 .1 .1 .0, p .0 .promises .limits .people)) (omega (arith, c .before .before .before .before .signed-for .ensures, p .1 .1 .0 .masks (a .c * 16 + a .b))) (c .mask-of .ensures) (sym (c .before .before .before .signs2 .ensures) ∙ c .before .before .if3 .left))
 
 put-signed-requires : tie.Need-put-signed-requires
-put-signed-requires c κs = let p = c .before .before .before .before .before .before .before .before .before .before .before .before .before .before .before .pre in let k = c .before .before .before .before .before .before .before .before .before .before .live-branch .ensures .some (c .before .before .before .before .before .before .before .before .before .if1 .left) in let w = few-branches _ _ _ (p .0) (p .1 .1 .0) (k .0) in (p .1 .1 .1 .1, omega (arith, p .1 .1 .0 .made, k .0), omega (arith, k .2, w))
+put-signed-requires c κs = let p = c .before .before .before .before .before .before .before .before .before .before .before .before .before .before .before .pre in let k = c .before .before .before .before .before .before .before .before .before .before .live-branch .ensures .some (c .before .before .before .before .before .before .before .before .before .if1 .left) in let w = few-branches _ _ _ (p .0) (p .1 .1 .0) (k .0) in (omega (arith, p .1 .1 .1 .1), omega (arith, p .1 .1 .0 .made, k .0), omega (arith, k .2, w))
 
 same-length-4 : tie.Need-same-length-4
 same-length-4 c = search needs

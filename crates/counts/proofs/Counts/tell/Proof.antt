@@ -24,7 +24,7 @@ add-at : tie.Need-add-at
 add-at c = omega (arith, c .before .before .before .before .before .before .pre .1 .0 .count (c .before .before .before .before .before .before .args .i) (omega arith), c .before .count-of .ensures)
 
 state-at-requires : tie.Need-state-at-requires
-state-at-requires c κs = (c .before .before .before .before .before .before .before .pre .1 .1, omega (arith, c .before .before .before .before .before .before .before .pre .1 .0 .count (c .before .before .before .before .before .before .before .args .i) (omega arith), c .before .before .before .before .before .before .before .pre .1 .0 .sets, c .before .before .count-of .ensures))
+state-at-requires c κs = (omega (arith, c .before .before .before .before .before .before .before .pre .1 .1), omega (arith, c .before .before .before .before .before .before .before .pre .1 .0 .count (c .before .before .before .before .before .before .before .args .i) (omega arith), c .before .before .before .before .before .before .before .pre .1 .0 .sets, c .before .before .count-of .ensures))
 
 same-length-2 : tie.Need-same-length-2
 same-length-2 c = search needs
@@ -33,7 +33,7 @@ returns-3 : tie.Need-returns-3
 returns-3 c = let p = c .before .before .before .before .before .before .before .before .before .pre in tell-kept _ _ _ _ (p .0) (p .1 .0) (omega arith) (omega (arith, c .before .before .before .before .count-of .ensures)) (λ e. c .if3 .taken (c .before .state-at .ensures ∙ e))
 
 put-state-requires : tie.Need-put-state-requires
-put-state-requires c κs = (c .before .before .before .before .before .before .before .before .before .before .pre .1 .1, omega (arith, c .before .before .before .before .before .before .before .before .before .before .pre .1 .0 .count (c .before .before .before .before .before .before .before .before .before .before .args .i) (omega arith), c .before .before .before .before .before .before .before .before .before .before .pre .1 .0 .sets, c .before .before .before .before .before .count-of .ensures))
+put-state-requires c κs = (omega (arith, c .before .before .before .before .before .before .before .before .before .before .pre .1 .1), omega (arith, c .before .before .before .before .before .before .before .before .before .before .pre .1 .0 .count (c .before .before .before .before .before .before .before .before .before .before .args .i) (omega arith), c .before .before .before .before .before .before .before .before .before .before .pre .1 .0 .sets, c .before .before .before .before .before .count-of .ensures))
 
 same-length-3 : tie.Need-same-length-3
 same-length-3 c = search needs

@@ -100,7 +100,7 @@ module _ {M : Type 1} (𝓤 : URA M) (H : Heap 𝓤) (A : Atoms 𝓤) (W : Given
   Asks = Ready (t .now) × (ys ≡ replicate cellsLong 0)
 
   abbrev Does-it : Counts → List ℕ → Type 0
-  Does-it r zs = Begun (t .now) (valuesOf (s₀ .now) i (defEntryAt (held (t .now)) 0 .secrets)) (book r (pagesIn zs))
+  Does-it r zs = Begun (t .now) (valuesOf (s₀ .now) i (defEntryAt (held (t .now)) 0 .secrets)) r zs
 
   asked : (ν : ℕ) (δ : GName) → Asks → ent 𝓤 (onEntry 𝓤 H A core.signature (κ₁, (κ₂, (ν ∷ [], tt))) (q₁, (q₂, (fullShare, tt))) (passed δ) (with ν)) (Core 𝓤 H A mem run .pre (to ν δ))
   asked ν δ k = qed W ((‵ (flft κ₁ q₁) ⊛ ‵ (flft κ₂ q₂) ⊛ ‵ (flft (ν ∷ []) fullShare) ⊛ ‵ ftrue) ∷ ‵ (owns (ShrSlice (named 0) κ₁ usize ∷ ShrSlice (named 1) κ₂ u8 ∷ usize ∷ MutSlice (named 2) (ν ∷ []) usize ∷ []) (passed δ) (with ν)) ∷ []) ∵ says ! k $ frame ! $ done !

@@ -1,8 +1,8 @@
 use Rattle.truth.proofs.Laws.{counts-told, counts-not}
 use mathlib.Core.Path.{refl}
 use borrow.Author.Needs.{needs}
-use Rattle.truth.proofs.counts.Statement.{statement}
-use Rattle.truth.proofs.counts.Tie as tie
+use Rattle.truth.proofs.counts_always.Statement.{statement}
+use Rattle.truth.proofs.counts_always.Tie as tie
 
 sub-evaluate : tie.Need-sub-evaluate
 sub-evaluate c = search needs
@@ -32,8 +32,8 @@ returns-2 c =
     let c1 = c .before in
     counts-not refl (c1 .evaluate .ensures) (c .if1 .left)
 
-pub counts-spec : {M : Type 1} → statement M
-counts-spec =
+pub counts-always-spec : {M : Type 1} → statement M
+counts-always-spec =
     tie.close
     (tie.spec
     sub-evaluate

@@ -3,8 +3,8 @@ use native.Mathlib.Omega.{arith}
 use borrow.Author.Needs.{needs}
 use Rattle.fields.proofs.Laws.{end-within, one-letter}
 use Rattle.fields.specs.Field.{wordFrom, textAt, endAt}
-use Rattle.fields.proofs.word_from.Statement.{statement}
-use Rattle.fields.proofs.word_from.Tie as tie
+use Rattle.fields.proofs.bare_word.Statement.{statement}
+use Rattle.fields.proofs.bare_word.Tie as tie
 
 sub-if1 : tie.Need-sub-if1
 sub-if1 c = search needs
@@ -46,8 +46,8 @@ returns-2 : tie.Need-returns-2
 unfolding wordFrom textAt endAt
 returns-2 c = rw (c .packed-of .ensures, c .before .before .field-end .ensures, add-sub-cancel-left)
 
-pub word-from-spec : {M : Type 1} → statement M
-word-from-spec =
+pub bare-word-spec : {M : Type 1} → statement M
+bare-word-spec =
     tie.close
     (tie.spec
     sub-if1

@@ -1,6 +1,6 @@
 -- The program's ledger has in its cells the plain ledger that it stands for, and nothing else. Assumes nothing.
 use Prim.Native.Nat.{ℕ, zero, suc, _+_, _*_, _/_, _%_, _^_, _≤_, _<_}
-use mathlib.Core.Bool.{Bool, true, false, cond}
+use mathlib.Core.Bool.{false, cond}
 use mathlib.Core.Path.{_≡_, refl, sym, ap, _∙_, subst, fun-ext}
 use mathlib.Core.List.{List}
 use mathlib.Core.Logic.{_⊎_, ⊎-elim, by-cases}
@@ -12,8 +12,7 @@ use lib.Seq.{ext-getD}
 use lib.Dec.{eqb}
 use lib.Pow.{mod-pow-add}
 use borrow.Author.Tests.{lt-ltb}
-use Rattle.bitml.specs.Ledger.{Event, Contract, Commitment, ill, number, noContract, contractAt, setAt, commitmentAt}
-use Rattle.bitml.specs.Ledger.{Ledger as Plain}
+use Rattle.bitml.specs.Ledger.{Event, Contract, Commitment, ill, number, noContract, contractAt, setAt, commitmentAt, Ledger as Plain}
 use Rattle.bitml.specs.Limits.{limitedRefusal, limitedStep}
 use Rattle.bitml.proofs.Lists.{and-true}
 use Rattle.tables.specs.Entries.{people, firstOf}

@@ -1,6 +1,6 @@
 -- What each of the ledger's methods passes on, and what it does (`Method`): the first of what it passes on is the table, and numbers come last. Assumes nothing.
 use mathlib.Core.Path.{_≡_}
-use Prim.Native.Nat.{ℕ, zero, suc, _≤_, _<_}
+use Prim.Native.Nat.{ℕ, _≤_, _<_}
 use mathlib.Core.List.{List, [], _∷_}
 use lib.ListN.{length}
 use denote.Builtin.{u8, usize}
@@ -13,17 +13,13 @@ use Rattle.counts.specs.Book.{book}
 use Rattle.counts.specs.Fit.{Fit}
 use Rattle.ledger.specs.Values.{valuesOf}
 use Rattle.ledger.specs.Hands.{Holds}
-use Rattle.ledger.proofs.Rest.{Part, number, slice}
+use Rattle.walks.proofs.Rest.{Part, slice, numbers}
 use Rattle.ledger.proofs.Method.{Deed}
 
 abbrev fits : List ℕ → Counts → List ℕ → Type 0
 fits t l ys = Fit t (book l (pagesIn ys))
 
 -- the table, and k numbers; the table with its index; and both with the request's bytes
-abbrev numbers : {n : ℕ} → ℕ → List (Part n)
-numbers zero = []
-numbers (suc k) = number ∷ numbers k
-
 abbrev pub with-table : ℕ → List (Part 1)
 with-table k = slice 0 tt usize ∷ numbers k
 

@@ -1,7 +1,6 @@
 -- The events of ★10, and values, by computing. Assumes nothing.
 use mathlib.Core.Path.{_≡_, refl}
-use mathlib.Core.Option.{none}
-use mathlib.Core.Option.{some as the}
+use mathlib.Core.Option.{none, some as the}
 use mathlib.Core.List.{[], _∷_}
 use Rattle.bitml.specs.Ledger.{wait, sign, tell, fire, renew}
 use Rattle.fields.specs.Field.{fieldLen, textAt, endAt, allDigits, digitsOn, digitsOf, numberOf, numberAt, packed, packedOf, wordFrom, wordAt, firstAt, lineEndAt, whenRead, belowAt, betweenAt}

@@ -1,5 +1,5 @@
 -- A play on its way, from event to event. Assumes nothing.
-use mathlib.Core.Path.{_≡_, refl, sym, ap, subst, _∙_}
+use mathlib.Core.Path.{_≡_, refl, sym, subst, _∙_}
 use Prim.Native.Nat.{ℕ, _+_, _-_, _≤_, _<_}
 use native.Mathlib.Omega.{arith}
 use mathlib.Core.List.{List}
@@ -9,7 +9,7 @@ use Rattle.bitml.specs.Answers.{endOf}
 use Rattle.fields.specs.declared.Got.the-variants.{Value}
 use Rattle.tables.specs.Entries.{people}
 use Rattle.tables.specs.SheetOf.{sheetIn}
-use Rattle.events.specs.Events.{nextOf, eventAt, eventsAt}
+use Rattle.events.specs.Events.{eventAt, eventsAt}
 use Rattle.events.specs.declared.Lines.the-variants as lines
 use Rattle.pages.specs.Pages.{cellsLong, pagesIn}
 use Rattle.counts.specs.declared.Counts.{Counts}

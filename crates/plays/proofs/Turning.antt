@@ -18,11 +18,15 @@ use Rattle.texts.specs.Text.{lineText}
 use Rattle.texts.specs.Wrote.{Wrote}
 use Rattle.plays.specs.declared.Turn.{Turn}
 use Rattle.plays.specs.Events.{eventOf}
-use Rattle.plays.specs.Turns.{eventBy, eventIn, InRange, Due, Noted}
+use Rattle.plays.specs.Turns.{turn, eventBy, eventIn, InRange, Due, Noted}
 use Rattle.plays.proofs.Stepping.{EventLine, wait-range, sign-range, renew-range}
 
+-- over what the code made
+pub due-is : {s t : List ℕ} {at n e : ℕ} {r d : Turn} → r ≡ d → Due s t at n e d → Due s t at n e r
+due-is {s} {t} {at} {n} {e} h = subst (λ (x : Turn). Due s t at n e x) (sym h)
+
 module _ (s t : List ℕ) (at n e : ℕ) (bytes : (i : ℕ) → getD s i 0 < 256) where
-  pub due-none : length s ≤ at → Due s t at n e (record { kind = 5; a = 0; b = 0; c = 0; n = 0; next = at; line = n; end = e })
+  pub due-none : length s ≤ at → Due s t at n e (turn 5 0 0 0 0 at n e)
   due-none h =
       record {
         line = refl;
@@ -50,23 +54,23 @@ module _ (s t : List ℕ) (at n e : ℕ) (bytes : (i : ℕ) → getD s i 0 < 256
           next = λ k. ap nextOf q ∙ next;
         }
 
-    pub due-wait : (d f : ℕ) → x ≡ line.Wait d f → Due s t at n e (record { kind = 0; a = d; b = 0; c = 0; n = 0; next = f; line = n; end = e })
+    pub due-wait : (d f : ℕ) → x ≡ line.Wait d f → Due s t at n e (turn 0 d 0 0 0 f n e)
     unfolding eventBy eventOf nextOf
     due-wait d f h = due-by (line.Wait d f) _ h refl refl (omega arith) (record { wait = λ k. wait-range s (people t) at x l d f h; sign = λ k. absurd (omega arith); renew = omega arith }) refl refl
 
-    pub due-sign : (p c b f : ℕ) → x ≡ line.Sign p c b f → Due s t at n e (record { kind = 1; a = p; b = c; c = b; n = 0; next = f; line = n; end = e })
+    pub due-sign : (p c b f : ℕ) → x ≡ line.Sign p c b f → Due s t at n e (turn 1 p c b 0 f n e)
     unfolding eventBy eventOf nextOf
     due-sign p c b f h = due-by (line.Sign p c b f) _ h refl refl (omega arith) (record { wait = λ k. absurd (omega arith); sign = λ k. sign-range s (people t) at x l p c b f h; renew = omega arith }) refl refl
 
-    pub due-tell : (i j f : ℕ) → x ≡ line.Tell i j f → Due s t at n e (record { kind = 2; a = i; b = j; c = 0; n = 0; next = f; line = n; end = e })
+    pub due-tell : (i j f : ℕ) → x ≡ line.Tell i j f → Due s t at n e (turn 2 i j 0 0 f n e)
     unfolding eventBy eventOf nextOf
     due-tell i j f h = due-by (line.Tell i j f) _ h refl refl (omega arith) (record { wait = λ k. absurd (omega arith); sign = λ k. absurd (omega arith); renew = omega arith }) refl refl
 
-    pub due-fire : (c b f : ℕ) → x ≡ line.Fire c b f → Due s t at n e (record { kind = 3; a = c; b = b; c = 0; n = 0; next = f; line = n; end = e })
+    pub due-fire : (c b f : ℕ) → x ≡ line.Fire c b f → Due s t at n e (turn 3 c b 0 0 f n e)
     unfolding eventBy eventOf nextOf
     due-fire c b f h = due-by (line.Fire c b f) _ h refl refl (omega arith) (record { wait = λ k. absurd (omega arith); sign = λ k. absurd (omega arith); renew = omega arith }) refl refl
 
-    pub due-renew : (c b v m f : ℕ) → x ≡ line.Renew c b v m f → Due s t at n e (record { kind = 4; a = c; b = b; c = v; n = m; next = f; line = n; end = e })
+    pub due-renew : (c b v m f : ℕ) → x ≡ line.Renew c b v m f → Due s t at n e (turn 4 c b v m f n e)
     unfolding eventBy eventOf nextOf
     due-renew c b v m f h = due-by (line.Renew c b v m f) _ h refl refl (omega arith) (record { wait = λ k. absurd (omega arith); sign = λ k. absurd (omega arith); renew = renew-range s (people t) at x l c b v m f h }) refl refl
 

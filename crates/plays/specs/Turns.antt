@@ -14,6 +14,10 @@ use Rattle.texts.specs.Wrote.{Wrote}
 use Rattle.plays.specs.declared.Turn.{Turn}
 use Rattle.plays.specs.Events.{eventOf}
 
+-- an event as numbers
+abbrev pub turn : (kind first second third count next line end : ℕ) → Turn
+turn k a b c n f number start = record { kind = k; first = a; second = b; third = c; count = n; next = f; line = number; end = start }
+
 -- the event of a kind, with its numbers
 unfoldable pub eventBy : ℕ → List ℕ → ℕ → ℕ → ℕ → ℕ → Event
 eventBy zero s a b c n = wait a
@@ -23,13 +27,13 @@ eventBy (suc (suc (suc zero))) s a b c n = fire a b
 eventBy (suc (suc (suc (suc k)))) s a b c n = renew a b (valuesOf s c n)
 
 abbrev pub eventIn : List ℕ → Turn → Event
-eventIn s d = eventBy (d .kind) s (d .a) (d .b) (d .c) (d .n)
+eventIn s d = eventBy (d .kind) s (d .first) (d .second) (d .third) (d .count)
 
 -- what the ledger asks of it, of so many participants
 pub record InRange (people : ℕ) (d : Turn) : Type 0 where
-  pub wait : d .kind ≡ 0 → (1 ≤ d .a) × (d .a ≤ 4294967295)
-  pub sign : d .kind ≡ 1 → d .a < people
-  pub renew : d .n ≤ 8
+  pub wait : d .kind ≡ 0 → (1 ≤ d .first) × (d .first ≤ 4294967295)
+  pub sign : d .kind ≡ 1 → d .first < people
+  pub renew : d .count ≤ 8
 
 -- it is the one whose line starts at `at`, or none is left, which is kind 5; its line has that number, and the text of its answer starts there
 pub record Due (s t : List ℕ) (at number start : ℕ) (d : Turn) : Type 0 where

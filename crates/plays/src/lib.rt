@@ -37,7 +37,7 @@ ghost use Rattle.texts.specs.Text.{lineText, linesText};
 ghost use Rattle.texts.specs.Wrote.{Wrote};
 ghost use Rattle.replies.specs.Answer.{Gives, leastText};
 ghost use Rattle.plays.specs.Events.{eventsOf};
-ghost use Rattle.plays.specs.Turns.{eventIn, InRange, Due, Noted};
+ghost use Rattle.plays.specs.Turns.{turn, eventIn, InRange, Due, Noted};
 
 // The kinds of events; and that none is left.
 const WAIT: usize = 0;
@@ -55,13 +55,37 @@ const NONE: usize = 5;
 // The event that is due: its kind, its numbers in their order (of a renewal contract, branch, where the values stand and how many), where its line ends; and for its answer the number of its line in the request and where the text ends.
 pub struct Turn {
     pub kind: usize,
-    pub a: usize,
-    pub b: usize,
-    pub c: usize,
-    pub n: usize,
+    pub first: usize,
+    pub second: usize,
+    pub third: usize,
+    pub count: usize,
     pub next: usize,
     pub line: usize,
     pub end: usize,
+}
+
+fn numbered(
+    kind: usize,
+    first: usize,
+    second: usize,
+    third: usize,
+    count: usize,
+    next: usize,
+    line: usize,
+    end: usize,
+) -> Turn
+    ensures { λ r. ⌜ r ≡ turn kind first second third count next line end ⌝ }
+{
+    Turn {
+        kind,
+        first,
+        second,
+        third,
+        count,
+        next,
+        line,
+        end,
+    }
 }
 
 // The event whose line starts at `at`.
@@ -69,72 +93,17 @@ fn due_at(s: &[u8], at: usize, t: &[usize], line: usize, end: usize) -> Turn
     requires { ⌜ Ready (now t) × (at ≤ length (now s)) × (eventsAt (now s) (people (now t)) at ≡ Good) ⌝ }
     ensures { λ r. ⌜ Due (now (s .entry)) (now (t .entry)) at line end r ⌝ }
 {
-    let none = Turn {
-        kind: NONE,
-        a: 0,
-        b: 0,
-        c: 0,
-        n: 0,
-        next: at,
-        line,
-        end,
-    };
     if s.len() <= at {
-        return none;
+        return numbered(NONE, 0, 0, 0, 0, at, line, end);
     }
     let v = event_at(s, at, people(t));
     match v {
-        Event::Wait(d, next) => Turn {
-            kind: WAIT,
-            a: d,
-            b: 0,
-            c: 0,
-            n: 0,
-            next,
-            line,
-            end,
-        },
-        Event::Sign(p, c, b, next) => Turn {
-            kind: SIGN,
-            a: p,
-            b: c,
-            c: b,
-            n: 0,
-            next,
-            line,
-            end,
-        },
-        Event::Tell(i, j, next) => Turn {
-            kind: TELL,
-            a: i,
-            b: j,
-            c: 0,
-            n: 0,
-            next,
-            line,
-            end,
-        },
-        Event::Fire(c, b, next) => Turn {
-            kind: FIRE,
-            a: c,
-            b,
-            c: 0,
-            n: 0,
-            next,
-            line,
-            end,
-        },
-        Event::Renew(c, b, values, n, next) => Turn {
-            kind: RENEW,
-            a: c,
-            b,
-            c: values,
-            n,
-            next,
-            line,
-            end,
-        },
-        Event::Bad(_, _) => none,
+        Event::Wait(d, next) => numbered(WAIT, d, 0, 0, 0, next, line, end),
+        Event::Sign(p, c, b, next) => numbered(SIGN, p, c, b, 0, next, line, end),
+        Event::Tell(i, j, next) => numbered(TELL, i, j, 0, 0, next, line, end),
+        Event::Fire(c, b, next) => numbered(FIRE, c, b, 0, 0, next, line, end),
+        Event::Renew(c, b, values, n, next) => numbered(RENEW, c, b, values, n, next, line, end),
+        Event::Bad(_, _) => numbered(NONE, 0, 0, 0, 0, at, line, end),
     }
 }
 
@@ -152,19 +121,14 @@ fn act<'a>(l: Ledger<'a>, t: &[usize], x: &[usize], s: &[u8], d: Turn) -> Ledger
     requires { ⌜ Ready (now t) × Holds (now t) l × Indexed (held (now t)) (now x) × InRange (people (now t)) d ⌝ }
     ensures { λ r. ⌜ Hands (now (t .entry)) (l .entry) (eventIn (now (s .entry)) d) r ⌝ }
 {
-    if d.kind == WAIT {
-        return l.wait(t, d.a);
+    let kind = d.kind;
+    match kind {
+        WAIT => l.wait(t, d.first),
+        SIGN => l.sign(t, x, d.first, d.second, d.third),
+        TELL => l.tell(t, d.first, d.second),
+        FIRE => l.fire(t, x, d.first, d.second),
+        _ => l.renew(t, x, s, d.first, d.second, d.third, d.count),
     }
-    if d.kind == SIGN {
-        return l.sign(t, x, d.a, d.b, d.c);
-    }
-    if d.kind == TELL {
-        return l.tell(t, d.a, d.b);
-    }
-    if d.kind == FIRE {
-        return l.fire(t, x, d.a, d.b);
-    }
-    l.renew(t, x, s, d.a, d.b, d.c, d.n)
 }
 
 // The last line: time, live contracts, paid by participant.

@@ -45,7 +45,7 @@ use denote.Triple.Table.{entered, cited}
 use denote.Triple.Walked.{Stays, stay-none-slice, gave-slice, walkOf, Walks, ends-at, walked, goes-none-slice, goes-gave-slice, walk-meets}
 use denote.Exit.{yes}
 use Rattle.lent.specs.declared.Row.{Row}
-use Rattle.lent.proofs.Walks.{word, Parts, ty-rep, wt-rep, lend-in, share-in, take-out, says-both, says-all, big, found, skips-to, unmove, Rooms, free-all}
+use Rattle.walks.proofs.Steps.{word, Parts, ty-rep, wt-rep, lend-in, share-in, take-out, says-both, says-all, big, found, skips-to, unmove, Rooms, free-all}
 use Rattle.lent.proofs.Row as T
 use Rattle.lent.proofs.Row.Laws as T′
 use Rattle.replies.specs.declared.Reply.{Reply}

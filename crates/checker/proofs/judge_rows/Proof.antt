@@ -44,7 +44,7 @@ use denote.Triple.Walked.{Stays, stay-none-slice, gave-slice, walkOf, Walks, end
 use denote.Exit.{yes}
 use Rattle.lent.specs.declared.Row.{Row}
 use Rattle.lent.specs.Structs.{structs}
-use Rattle.lent.proofs.Walks.{Parts, share-in, says-both, says-four, needs-both, free-all}
+use Rattle.walks.proofs.Steps.{Parts, share-in, says-both, says-four, needs-both, free-all}
 use Rattle.lent.proofs.Row as T
 use Rattle.lent.proofs.emit_rows as emit
 use Rattle.lent.proofs.emit_rows.Symbol as emit-def

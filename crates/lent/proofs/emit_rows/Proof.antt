@@ -55,7 +55,7 @@ use denote.Exit.{yes}
 use Rattle.lent.specs.declared.Row.{Row}
 use Rattle.lent.specs.Structs.{noRow, structAt, reachedOf, structs}
 use Rattle.lent.proofs.Structs.{struct-none, written, written-length, written-next, written-all}
-use Rattle.lent.proofs.Walks.{word, found, unmove, Rooms, free-all}
+use Rattle.walks.proofs.Steps.{word, found, unmove, Rooms, free-all}
 use Rattle.lent.proofs.Row as T
 use Rattle.lent.proofs.Row.Laws as T′
 use Rattle.lent.proofs.row_of as row-of

@@ -47,8 +47,7 @@ use denote.Triple.Clauses.{ensured, lasts}
 use denote.Triple.Table.{entered, cited}
 use denote.Triple.Walked.{says, needs, Stays, stay-none, stay-none-slice, stay-slice, gave-slice, walkOf, Walks, ends-at, walked, goes-none, goes-none-slice, goes-slice, goes-gave-slice, walk-meets}
 use denote.Exit.{yes}
-use Rattle.bitml.specs.Ledger.{stipulated}
-use Rattle.bitml.specs.Ledger.{Ledger as Plain}
+use Rattle.bitml.specs.Ledger.{stipulated, Ledger as Plain}
 use Rattle.bitml.specs.Answers.{endOf, playLines}
 use Rattle.tables.specs.Entries.{held, people}
 use Rattle.tables.specs.SheetOf.{sheetIn, defEntryAt}
@@ -65,15 +64,15 @@ use Rattle.counts.proofs.Counts.Laws as N′
 use Rattle.texts.specs.Text.{lineText, linesText}
 use Rattle.texts.specs.Wrote.{Wrote}
 use Rattle.replies.specs.Answer.{leastText}
-use Rattle.lent.proofs.Walks.{word, Rooms, says-all, free-all}
+use Rattle.walks.proofs.Steps.{word, Rooms, says-all, free-all}
 use Rattle.ledger.specs.declared.Ledger.{Ledger}
 use Rattle.ledger.specs.Values.{valuesOf}
-use Rattle.ledger.specs.Hands.{bookOf, Holds, Hands, Begun}
+use Rattle.ledger.specs.Hands.{Holds, Hands, Begun}
 use Rattle.ledger.proofs.Ledger as T
 use Rattle.ledger.proofs.Ledger.Laws as T′
 use Rattle.ledger.proofs.Held.{c-typed}
-use Rattle.ledger.proofs.Again.{LentAgain, lends-again, comes-back}
-use Rattle.ledger.proofs.Sharing.{SharedAgain, shares-again, shared-back}
+use Rattle.walks.proofs.Again.{LentAgain, lends-again, comes-back}
+use Rattle.walks.proofs.Sharing.{SharedAgain, shares-again, shared-back}
 use Rattle.plays.specs.declared.Turn.{Turn}
 use Rattle.plays.specs.Events.{eventsOf}
 use Rattle.plays.specs.Turns.{eventIn, InRange, Due, Noted}

@@ -1,6 +1,6 @@
 -- A `&κ mut [T]` that is shared for a lifetime κ′ of a call, and is the holder's again behind it: `Again`, for a callee that only reads. It says nothing of the crate.
 -- Assumes `Given`.
-use mathlib.Core.Path.{_≡_, refl}
+use mathlib.Core.Path.{refl}
 use Prim.Native.Nat.{ℕ}
 use mathlib.Core.List.{List, [], _∷_}
 use lib.ListN.{length}

@@ -1,0 +1,4 @@
+pub mod Steps
+pub mod Again
+pub mod Sharing
+pub mod Rest

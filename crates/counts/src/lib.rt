@@ -207,13 +207,11 @@ impl Counts {
             self.answer = back;
             return self;
         }
-        if kind == Action::WITHDRAW {
-            return self.withdraw(t, c, b, q, cells);
+        match kind {
+            Action::WITHDRAW => self.withdraw(t, c, b, q, cells),
+            Action::SPLIT => self.split(t, x, c, b, q, cells),
+            _ => self.reveal(t, c, b, q, cells),
         }
-        if kind == Action::SPLIT {
-            return self.split(t, x, c, b, q, cells);
-        }
-        self.reveal(t, c, b, q, cells)
     }
 
     // Branch b of contract c renews, with values for the new set.

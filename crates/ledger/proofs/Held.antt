@@ -1,4 +1,4 @@
--- What the walks of the ledger's methods share: what a proof has at exit of a `Ledger` that was passed by value and is handed back (the result names its lifetime, so nothing is said of a last list), and the machine value of its counts.
+-- What the walks over a ledger share: what a proof has at exit of a `Ledger` that was passed by value and is handed back (the result names its lifetime, so nothing is said of a last list), the machine value of its counts, and how it is taken apart for a call and put together behind it.
 -- Assumes nothing; the laws take `Given`. m is how many lifetimes a signature has after 'a.
 use mathlib.Core.Path.{_≡_, refl, _∙_, ap, subst}
 use Prim.Native.Nat.{ℕ, suc}
@@ -112,25 +112,36 @@ module _ (κ : Lft) (p : ℕ × ℕ) (γ : GName) where
   Spent c n = inStruct (MutSlice (named 0) κ usize ∷ N.the-field .row ∷ []) (mach c n ∷ []) (had c)
 
   module _ {M : Type 1} (𝓤 : URA M) (H : Heap 𝓤) (A : Atoms 𝓤) (W : Given 𝓤 H A) where
-    -- the ledger is put together: of the cells and of other counts; and what is had of the one that was taken is had for nothing
+    -- the ledger is put together, of the cells and of counts
+    pub together : (r : Counts) (n : ℕ) (zs : List ℕ) → Is N.the-row r (N′.lowered r ∷ []) → ent 𝓤 (sem 𝓤 H A (MutSlice (named 0) κ usize .own (lent-at p γ zs) (sliceVal p n ∷ []))) (sem 𝓤 H A (T.the-row α .own (ledger r zs) (mach r n ∷ [])))
+    together r n zs is =
+        qed W (‵ (MutSlice (named 0) κ usize .own (lent-at p γ zs) (sliceVal p n ∷ [])) ∷ []) ∵
+        nothing ! $ owned ! N.the-row (Is N.the-row) (LL.makes N.the-type N′.the-plain 𝓤 H A) r _ is $ fjoin ! $ move ! (1 ∷ 0 ∷ []) $ fjoin ! $
+        use1 W (‵ (T.the-row α .own (ledger r zs) (mach r n ∷ []))) (makes 𝓤 H A W (MutSlice (named 0) κ usize ∷ N.the-field .row ∷ []) (new r zs) (sliceVal p n ∷ [], (N′.lowered r ∷ [], tt))) $ done !
+
+    -- and what is had of the one that was taken is had for nothing
     pub handed : (l r : Counts) (n : ℕ) (zs : List ℕ) → Is N.the-row l (N′.lowered l ∷ []) → Is N.the-row r (N′.lowered r ∷ [])
         → ent 𝓤 (sem 𝓤 H A (MutSlice (named 0) κ usize .own (lent-at p γ zs) (sliceVal p n ∷ []))) (sep 𝓤 (sem 𝓤 H A (Spent l n)) (sem 𝓤 H A (T.the-row α .own (ledger r zs) (mach r n ∷ []))))
     handed l r n zs are is =
-        qed W (‵ (MutSlice (named 0) κ usize .own (lent-at p γ zs) (sliceVal p n ∷ [])) ∷ []) ∵
-        nothing ! $ owned ! N.the-row (Is N.the-row) (LL.makes N.the-type N′.the-plain 𝓤 H A) r _ is $ fjoin ! $ move ! (1 ∷ 0 ∷ []) $ fjoin ! $
-        use1 W (‵ (T.the-row α .own (ledger r zs) (mach r n ∷ []))) (makes 𝓤 H A W (MutSlice (named 0) κ usize ∷ N.the-field .row ∷ []) (new r zs) (sliceVal p n ∷ [], (N′.lowered r ∷ [], tt))) $
+        qed W (‵ (MutSlice (named 0) κ usize .own (lent-at p γ zs) (sliceVal p n ∷ [])) ∷ []) ∵ use1 W (‵ (T.the-row α .own (ledger r zs) (mach r n ∷ []))) (together r n zs is) $
         nothing ! $ owned ! N.the-row (Is N.the-row) (LL.makes N.the-type N′.the-plain 𝓤 H A) l _ are $ fjoin ! $ nothing ! $ fjoin ! $
         use1 W (‵ (Spent l n)) (makes 𝓤 H A W (MutSlice (named 0) κ usize ∷ N.the-field .row ∷ []) (had l) (sliceVal p n ∷ [], (N′.lowered l ∷ [], tt))) $ done !
 
-    module _ (q : Share) (l : Counts) (ys : List ℕ) {G : Goal 𝓤 H} (soaks : Soaks G) {Γ : List (Item 𝓤)} where
+    module _ (q : Share) (ys : List ℕ) {G : Goal 𝓤 H} (soaks : Soaks G) {Γ : List (Item 𝓤)} where
       -- the cells are lent again, for a lifetime ν of a call, as the callee names it
-      pub lends : (ℓ : Lifetime) → ((ν : ℕ) (δ : GName) → Sq W (‵ (MutSlice ℓ (ν ∷ []) usize .own (lent-at p δ ys) (sliceVal p (length ys) ∷ [])) ∷ ‵ (flft (ν ∷ []) fullShare) ∷ ‵ (LentAgain usize κ (ν ∷ []) q γ (p .0) (p .1) δ ys) ∷ Γ) G)
-          → Sq W (‵ (T.the-row α .own (ledger l ys) (mach l (length ys) ∷ [])) ∷ ‵ (flft κ q) ∷ Γ) G
-      lends ℓ after =
-          use1 W (given (mach l (length ys) ∷ [] ≡ mach l (length ys) ∷ []) (‵ (all-own (T.the-type α .parts) (T′.the-laws α) (lent-at p γ ys, (l, tt))))) (own-open 𝓤 H A W (T.the-type α) (T′.the-laws α) (lent-at p γ ys, (l, tt)) (mach l (length ys))) $ learn ! (λ _.
-          fsplit ! $ move ! (1 ∷ []) $ drop ! $ lft-new ! soaks (λ ν. move ! (1 ∷ 2 ∷ []) $
+      pub lends-cells : (ℓ : Lifetime) → ((ν : ℕ) (δ : GName) → Sq W (‵ (MutSlice ℓ (ν ∷ []) usize .own (lent-at p δ ys) (sliceVal p (length ys) ∷ [])) ∷ ‵ (flft (ν ∷ []) fullShare) ∷ ‵ (LentAgain usize κ (ν ∷ []) q γ (p .0) (p .1) δ ys) ∷ Γ) G)
+          → Sq W (‵ (MutSlice (named 0) κ usize .own (lent-at p γ ys) (sliceVal p (length ys) ∷ [])) ∷ ‵ (flft κ q) ∷ Γ) G
+      lends-cells ℓ after =
+          lft-new ! soaks (λ ν. move ! (1 ∷ 2 ∷ []) $
           use2 W (later (some (λ (δ : GName). ‵ (MutSlice ℓ (ν ∷ []) usize .own (lent-at p δ ys) (sliceVal p (length ys) ∷ [])) ⊛ ‵ (LentAgain usize κ (ν ∷ []) q γ (p .0) (p .1) δ ys)))) (lends-again usize κ (ν ∷ []) q γ (p .0) (p .1) 𝓤 H A W (named 0) ℓ ys) $ await ! soaks $ pick ! (λ δ. split ! $
-          move ! (0 ∷ 2 ∷ 1 ∷ []) $ after ν δ)))
+          move ! (0 ∷ 2 ∷ 1 ∷ []) $ after ν δ))
+
+      -- those of a ledger, which is opened
+      pub lends : (l : Counts) (ℓ : Lifetime) → ((ν : ℕ) (δ : GName) → Sq W (‵ (MutSlice ℓ (ν ∷ []) usize .own (lent-at p δ ys) (sliceVal p (length ys) ∷ [])) ∷ ‵ (flft (ν ∷ []) fullShare) ∷ ‵ (LentAgain usize κ (ν ∷ []) q γ (p .0) (p .1) δ ys) ∷ Γ) G)
+          → Sq W (‵ (T.the-row α .own (ledger l ys) (mach l (length ys) ∷ [])) ∷ ‵ (flft κ q) ∷ Γ) G
+      lends l ℓ after =
+          use1 W (given (mach l (length ys) ∷ [] ≡ mach l (length ys) ∷ []) (‵ (all-own (T.the-type α .parts) (T′.the-laws α) (lent-at p γ ys, (l, tt))))) (own-open 𝓤 H A W (T.the-type α) (T′.the-laws α) (lent-at p γ ys, (l, tt)) (mach l (length ys))) $ learn ! (λ _.
+          fsplit ! $ move ! (1 ∷ []) $ drop ! $ lends-cells ℓ after)
 
       -- the call is over, and they come back at the list that it left
       pub come-home : (ℓ : Lifetime) (ν : ℕ) (δ : GName) (zs : List ℕ) → Room usize (length ys) → length zs ≡ length ys

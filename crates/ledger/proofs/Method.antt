@@ -2,7 +2,8 @@
 --     Deed ps          what a method and its callee agree on: the table, the event, and what is asked of each
 --     Method, Callee   the contract of a method of a `Ledger` that hands on what the event makes of it, and of a function over counts and cells that does the event.        method-code k      the MIR of such a method: the struct is taken apart, its cells are lent again for a call of k, and it is put together of what comes back
 --     method-meets     if k does the event, so does the method.        calls-method     a call of a method
--- Assumes nothing.
+-- A method's generated signature, clauses and code convert to these, so that its own proof is a citation.
+-- Assumes nothing; the laws take `Given`.
 use mathlib.Core.Path.{refl, sym, subst}
 use Prim.Native.Nat.{ℕ, suc}
 use mathlib.Core.List.{List, [], _∷_}
@@ -105,6 +106,7 @@ module _ {n : ℕ} (ps : List (Part n)) where
   abbrev pub callee : Ended
   callee = record { signature = record { lifetimes = suc n; outlives = []; params = plain (λ _. N.the-row) ∷ mutSlice 0 tt (λ _. usize) ∷ slots ps; result = plain (λ _. N.the-row) }; kept = (yes, (yes, all yes (slots ps))) }
 
+  -- the table and the event, by what is read of what is passed on; what a method asks, and clause by clause what its callee does, of counts and cells; and what the one gives of the other
   pub record Deed : Type 1 where
     pub table : Sees ps → List ℕ
     pub event : Sees ps → Event
@@ -226,7 +228,7 @@ module _ {n : ℕ} {ps : List (Part n)} where
           assigns ! (addr ! (from ! (fld ! refl (fld ! refl (hop ! (look-in ! 13 (sub ! 0 refl (sub ! 0 refl (whole !)))) (stop !)))))) (at-place ! (behind 𝓤 H τs bs E 2) (stop !)) (init ! 7 refl (tt, tt)) $
           assigns ! (agg ! (and-then ! (load ! (at-place ! (behind 𝓤 H τs bs E 2) (stop !)) (look ! 7 refl)) (and-then ! (load ! (from ! (fld ! refl (fld ! refl (stop !)))) (look-in ! 13 (sub ! 1 refl (sub ! 0 refl (whole !))))) (no-more !)))) (at-place ! (behind 𝓤 H τs bs E 3) (stop !)) (init ! 5 refl (tt, (tt, (record { fits = room .0 }, tt)))) $
           -- the cells are lent again, for a lifetime ν of the call
-          move ! (18 ∷ []) $ fsplit ! $ move ! (19 ∷ []) $ split ! $ move ! (2 ∷ 0 ∷ []) $ lends (κs .0) p₀ γ 𝓤 H A W (qs .0) l ys tt (named 0) (λ ν δ.
+          move ! (18 ∷ []) $ fsplit ! $ move ! (19 ∷ []) $ split ! $ move ! (2 ∷ 0 ∷ []) $ lends (κs .0) p₀ γ 𝓤 H A W (qs .0) ys tt l (named 0) (λ ν δ.
           move ! (4 ∷ []) $ use1 W (‵ O ⊛ ‵ O) (twice 𝓤 H A W ps κs a (vals ps κs a)) $ split ! $
           move ! (2 ∷ 0 ∷ []) $ fjoin ! $ owned ! N.the-row (Is N.the-row) (LL.makes N.the-type N′.the-plain 𝓤 H A) l _ are $ fjoin ! $ move ! (2 ∷ 4 ∷ []) $ join ! $
           use2 W (raw (Callee 𝓤 d H A .pre (to ν δ))) (asked ν δ asks) $
@@ -242,7 +244,7 @@ module _ {n : ℕ} {ps : List (Part n)} where
           move ! (2 ∷ []) $ split ! $ move ! (1 ∷ []) $ peeks ! N.the-row (Is N.the-row) (shows 𝓤 H A N.the-row) r (w ∷ []) (λ is₀. let is = c-is r w is₀ in
           land ! (at-place ! (behind 𝓤 H τs bs E 0) (stop !)) (init ! 17 refl (LL.lawful N.the-type N′.the-laws 𝓤 H A W .typed r (w ∷ []) is₀ .0)) $ rewrite ! 17 (λ (u : Val). ‵ (fat fullShare N′.mir l₀ 0 u)) (c-tells r w is₀) refl $
           -- the lifetime is over, and the cells come back at the list that the callee left
-          drop ! $ split ! $ move ! (0 ∷ 5 ∷ 2 ∷ []) $ come-home (κs .0) p₀ γ 𝓤 H A W (qs .0) l ys tt (named 0) ν δ zs room long (
+          drop ! $ split ! $ move ! (0 ∷ 5 ∷ 2 ∷ []) $ come-home (κs .0) p₀ γ 𝓤 H A W (qs .0) ys tt (named 0) ν δ zs room long (
           move ! (3 ∷ []) $ drop ! $
           -- [the cells; the lifetime's token; the other tokens; what is passed on; the locals]
           assigns ! (addr ! (from ! (fld ! refl (fld ! refl (hop ! (look-in ! 17 (sub ! 0 refl (sub ! 0 refl (whole !)))) (stop !)))))) (at-place ! (behind 𝓤 H τs bs E 4) (stop !)) (init ! 7 refl (tt, tt)) $

@@ -55,7 +55,7 @@ fn values(s: &[u8], from: usize, n: usize, out: &mut [usize])
 }
 
 // The counts at stipulation, with the values that stand in the request from `at` on, and cells that are still zero.
-fn begin(t: &[usize], s: &[u8], at: usize, cells: &mut [usize]) -> Counts
+fn begin(cells: &mut [usize], t: &[usize], s: &[u8], at: usize) -> Counts
     requires { ⌜ Ready (now t) × (now cells ≡ replicate cellsLong 0) ⌝ }
     ensures { λ r. ⌜ Begun (now (t .entry)) (valuesOf (now (s .entry)) at (defEntryAt (held (now (t .entry))) 0 .secrets)) r (now (cells .exit)) ⌝ }
 {
@@ -97,7 +97,7 @@ impl<'a> Ledger<'a> {
         requires { ⌜ Ready (now t) × (now cells ≡ replicate cellsLong 0) ⌝ }
         ensures { λ r. ⌜ Begun (now (t .entry)) (valuesOf (now (s .entry)) at (defEntryAt (held (now (t .entry))) 0 .secrets)) (r .counts) (now (r .cells)) × (length (now (r .cells)) ≡ cellsLong) × (r .cells ≡ at-last (cells .entry) (now (r .cells))) ⌝ }
     {
-        let counts = begin(t, s, at, &mut *cells);
+        let counts = begin(&mut *cells, t, s, at);
         Ledger { cells, counts }
     }
 

@@ -1,4 +1,4 @@
--- A `&κ mut [T]` that is shared for a lifetime κ′ of a call, and is the holder's again behind it: `Again`, for a callee that only reads. It says nothing of the crate.
+-- A `&κ mut [T]` that is shared for a lifetime κ′ of a call, and is the holder's again behind it: `Again`, for a callee that only reads. It says nothing of any crate.
 -- Assumes `Given`.
 use mathlib.Core.Path.{refl}
 use Prim.Native.Nat.{ℕ}

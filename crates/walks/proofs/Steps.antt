@@ -1,4 +1,4 @@
--- Steps for walks by hand that the kit does not have: a local array of numbers that is lent, shared and taken back; several clauses shown or asked at once; a large constant; a local whose number is a variable; all locals freed at once. They say nothing of the crate.
+-- Steps for walks by hand that the kit does not have: a local array of numbers that is lent, shared and taken back; several clauses shown or asked at once; a large constant; a local whose number is a variable; all locals freed at once. They say nothing of any crate.
 --     ty-rep, wt-rep     an array of k zeros has its type
 --     lend-in      an array of k zeros in a local  ⊢  k zeros side by side, which `lends-slice` lends
 --     share-in     what `slice-back` gives of k numbers  ⊢  the whole share of them, which `lends-shr-slice` shares

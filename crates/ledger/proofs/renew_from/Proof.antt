@@ -1,6 +1,4 @@
-use mathlib.Core.Path.{subst}
 use Rattle.bitml.specs.Ledger.{renew}
-use Rattle.counts.specs.Does.{Does}
 use Rattle.ledger.proofs.Reading.{values-are, values-most, values-long}
 use borrow.Author.Needs.{needs}
 use Rattle.ledger.proofs.renew_from.Statement.{statement}

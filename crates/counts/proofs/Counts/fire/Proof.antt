@@ -46,7 +46,7 @@ returns-3 c = let a = c .before .before .before .before .before .before .before 
 withdraw-requires : tie.Need-withdraw-requires
 withdraw-requires c κs = let a = c .before .before .before .before .before .before .before .before .before .before .before .before .before .before .args in let p = c .before .before .before .before .before .before .before .before .before .before .before .before .before .before .pre in let k = c .before .before .before .before .before .before .before .before .before .live-branch .ensures .some (c .before .before .before .before .before .before .before .before .if1 .left) in
     let d = enabled-by (a .t .now) (book (a .self) (pagesIn (a .cells .now))) (a .c) (a .b) (c .before .before .before .before .before .before .before .before .before .live-branch .result) (k .0) (k .1) (k .2) (k .3) (c .before .before .before .held-back .ensures ∙ ap (λ m. notYet (people (a .t .now)) (held (a .t .now)) (c .before .before .before .before .before .before .before .before .before .live-branch .result) (a .self .time) m) (c .before .before .before .before .signed-for .ensures)) (c .before .before .if3 .left) in
-    (p .0, (p .1 .1 .0, (d, (sym (c .before .before .before .before .before .before .before .branch-kind .ensures) ∙ c .before .if4 .taken, omega (arith, p .1 .1 .1)))))
+    (p .0, (p .1 .1 .0, (d, (sym (c .before .before .before .before .before .before .before .branch-kind .ensures) ∙ c .before .match .keys1, omega (arith, p .1 .1 .1)))))
 
 same-length-4 : tie.Need-same-length-4
 same-length-4 c = search needs
@@ -55,9 +55,9 @@ returns-4 : tie.Need-returns-4
 returns-4 c = search needs
 
 split-requires : tie.Need-split-requires
-split-requires c κs = let a = c .before .before .before .before .before .before .before .before .before .before .before .before .before .before .before .args in let p = c .before .before .before .before .before .before .before .before .before .before .before .before .before .before .before .pre in let k = c .before .before .before .before .before .before .before .before .before .before .live-branch .ensures .some (c .before .before .before .before .before .before .before .before .before .if1 .left) in
-    let d = enabled-by (a .t .now) (book (a .self) (pagesIn (a .cells .now))) (a .c) (a .b) (c .before .before .before .before .before .before .before .before .before .before .live-branch .result) (k .0) (k .1) (k .2) (k .3) (c .before .before .before .before .held-back .ensures ∙ ap (λ m. notYet (people (a .t .now)) (held (a .t .now)) (c .before .before .before .before .before .before .before .before .before .before .live-branch .result) (a .self .time) m) (c .before .before .before .before .before .signed-for .ensures)) (c .before .before .before .if3 .left) in
-    (p .0, (p .1 .0, (p .1 .1 .0, (d, (sym (c .before .before .before .before .before .before .before .before .branch-kind .ensures) ∙ c .before .if5 .taken, omega (arith, p .1 .1 .1))))))
+split-requires c κs = let a = c .before .before .before .before .before .before .before .before .before .before .before .before .before .before .args in let p = c .before .before .before .before .before .before .before .before .before .before .before .before .before .before .pre in let k = c .before .before .before .before .before .before .before .before .before .live-branch .ensures .some (c .before .before .before .before .before .before .before .before .if1 .left) in
+    let d = enabled-by (a .t .now) (book (a .self) (pagesIn (a .cells .now))) (a .c) (a .b) (c .before .before .before .before .before .before .before .before .before .live-branch .result) (k .0) (k .1) (k .2) (k .3) (c .before .before .before .held-back .ensures ∙ ap (λ m. notYet (people (a .t .now)) (held (a .t .now)) (c .before .before .before .before .before .before .before .before .before .live-branch .result) (a .self .time) m) (c .before .before .before .before .signed-for .ensures)) (c .before .before .if3 .left) in
+    (p .0, (p .1 .0, (p .1 .1 .0, (d, (sym (c .before .before .before .before .before .before .before .branch-kind .ensures) ∙ c .before .match .keys2, omega (arith, p .1 .1 .1))))))
 
 same-length-5 : tie.Need-same-length-5
 same-length-5 c = search needs
@@ -66,10 +66,10 @@ returns-5 : tie.Need-returns-5
 returns-5 c = search needs
 
 reveal-requires : tie.Need-reveal-requires
-reveal-requires c κs = let a = c .before .before .before .before .before .before .before .before .before .before .before .before .before .before .before .args in let p = c .before .before .before .before .before .before .before .before .before .before .before .before .before .before .before .pre in let k = c .before .before .before .before .before .before .before .before .before .before .live-branch .ensures .some (c .before .before .before .before .before .before .before .before .before .if1 .left) in let q = c .before .before .before .before .before .before .before .before .before .before .live-branch .result in
-    let d = enabled-by (a .t .now) (book (a .self) (pagesIn (a .cells .now))) (a .c) (a .b) (c .before .before .before .before .before .before .before .before .before .before .live-branch .result) (k .0) (k .1) (k .2) (k .3) (c .before .before .before .before .held-back .ensures ∙ ap (λ m. notYet (people (a .t .now)) (held (a .t .now)) (c .before .before .before .before .before .before .before .before .before .before .live-branch .result) (a .self .time) m) (c .before .before .before .before .before .signed-for .ensures)) (c .before .before .before .if3 .left) in
-    let most = p .0 .promises .branch q (entry-small (a .t .now) _ (a .b) (k .3) (k .2)) .kind in
-    let e = c .before .before .before .before .before .before .before .before .branch-kind .ensures in let n3 = c .before .before .before .before .before .before .before .if2 .left in let n0 = c .before .before .if4 .left in let n1 = c .before .if5 .left in
+reveal-requires c κs = let a = c .before .before .before .before .before .before .before .before .before .before .before .before .before .before .args in let p = c .before .before .before .before .before .before .before .before .before .before .before .before .before .before .pre in let k = c .before .before .before .before .before .before .before .before .before .live-branch .ensures .some (c .before .before .before .before .before .before .before .before .if1 .left) in
+    let d = enabled-by (a .t .now) (book (a .self) (pagesIn (a .cells .now))) (a .c) (a .b) (c .before .before .before .before .before .before .before .before .before .live-branch .result) (k .0) (k .1) (k .2) (k .3) (c .before .before .before .held-back .ensures ∙ ap (λ m. notYet (people (a .t .now)) (held (a .t .now)) (c .before .before .before .before .before .before .before .before .before .live-branch .result) (a .self .time) m) (c .before .before .before .before .signed-for .ensures)) (c .before .before .if3 .left) in
+    let q = c .before .before .before .before .before .before .before .before .before .live-branch .result in let most = p .0 .promises .branch q (entry-small (a .t .now) _ (a .b) (k .3) (k .2)) .kind in
+    let e = c .before .before .before .before .before .before .before .branch-kind .ensures in let n3 = c .before .before .before .before .before .before .if2 .left in let n = c .before .match .rest in
     let w : branchEntryAt (held (a .t .now)) q .kind ≡ 2 = omega arith in
     (p .0, (p .1 .1 .0, (d, (w, omega (arith, p .1 .1 .1)))))
 
@@ -94,11 +94,11 @@ fire-spec =
     same-length-3
     returns-3
     withdraw-requires
+    split-requires
+    reveal-requires
     same-length-4
     returns-4
-    split-requires
     same-length-5
     returns-5
-    reveal-requires
     same-length-6
     returns-6)

@@ -19,10 +19,14 @@ mod library;
 #[allow(dead_code)]
 #[path = "../tests/model/model.rs"]
 mod model;
+#[allow(dead_code)]
+#[path = "../tests/model/notation.rs"]
+mod notation;
 
 use std::collections::BTreeMap;
 use std::hint::black_box;
-use std::process::{Command, ExitCode};
+use std::path::Path;
+use std::process::ExitCode;
 use std::time::{Duration, Instant};
 
 use library::{Reply, Row};
@@ -55,6 +59,12 @@ const WHY: f64 = 2.0;
 // ---------------------------------------------------------------------------------------------
 // Requests
 // ---------------------------------------------------------------------------------------------
+
+/// A text of the cases by its name.
+fn text(name: &str) -> String {
+    let texts = cases::texts(Path::new(cases::FOLDER));
+    texts.and_then(|texts| texts.text(name)).expect(name)
+}
 
 /// Grows the largest sheet: 512 nodes of two branches each, all reached; where nobody signs the first
 /// one, an exit from each for all of 16 participants.
@@ -489,7 +499,7 @@ fn plays() -> Vec<(&'static str, usize, String)> {
         (
             "9,350 waits",
             few,
-            format!("{}play\n{}", cases::N, "wait,1\n".repeat(9_350)),
+            format!("{}play\n{}", text("N"), "wait,1\n".repeat(9_350)),
         ),
         ("sixteen signers", few, sixteen_signers()),
         ("events refused by 14", few, nothing_there()),
@@ -508,7 +518,7 @@ fn requests() -> Vec<(String, usize, String)> {
     let makeall = format!("{sheet}makeall\n");
     assert_eq!(lines(makeall.as_bytes()).0, 16 * (model::ROWS + 1));
     let signed = Largest::sheet(["32768", "16384"], 0, 0);
-    let smallest = format!("{}make,0\n", cases::T);
+    let smallest = format!("{}make,0\n", text("T"));
     let (few, all) = (library::ROWS, library::ALL_ROWS);
     let requests = vec![
         ("smallest", few, smallest.clone()),
@@ -578,7 +588,7 @@ fn longest_numbers() -> String {
     format!("bitml,16,32\n{}", definition.repeat(32))
 }
 
-/// Contracts and a condition as deep as they may be, for the stack.
+/// Contracts and a condition as deep as they may be.
 fn deepest() -> String {
     let chain = ",c,1,0,0,s,1,1".repeat(30);
     let condition = ",not".repeat(63);
@@ -588,15 +598,12 @@ fn deepest() -> String {
 /// Sheets to read into a table and to write from it.
 fn sheets_to_write() -> Vec<(&'static str, String)> {
     vec![
-        ("smallest", cases::T.to_string()),
+        ("smallest", text("T")),
         ("deepest", deepest()),
         ("largest sheet", largest_sheet()),
         ("shortest fields", shortest_fields()),
         ("longest numbers", longest_numbers()),
-        (
-            "longest conditions",
-            cases::sheet_up_to(model::SHEET_BYTES - 8) + "0,0,w,0\n",
-        ),
+        ("longest conditions", text("full 1000000") + "0,0,w,0\n"),
     ]
 }
 
@@ -909,50 +916,8 @@ fn bench_tables() -> Result<(), String> {
 }
 
 // ---------------------------------------------------------------------------------------------
-// The stack
+// The program
 // ---------------------------------------------------------------------------------------------
-
-/// Answers each request on a thread with a stack of so many KiB, and reads and writes each sheet; the process
-/// dies if that is short.
-fn on_stack(kib: usize) -> bool {
-    // The requests are made on the main thread: the model that helps to make them needs stack too.
-    let (mut requests, sheets) = (requests(), sheets_to_write());
-    for word in ["make,0", "makeall", "why,0", "check,0", "play,1"] {
-        let request = format!("{}{word}\n", deepest());
-        requests.push((word.to_string(), library::ALL_ROWS, request));
-    }
-    let run = move || {
-        for (_, places, request) in &requests {
-            let mut buffers = Buffers::new(*places);
-            black_box(buffers.by_library(request.as_bytes()));
-        }
-        let mut cells = vec![0; SHEET_CELLS];
-        let mut text = vec![0; library::TEXT];
-        for (_, sheet) in &sheets {
-            black_box(library::read_sheet(sheet.as_bytes(), &mut cells));
-            black_box(library::write_sheet(&cells, &mut text));
-        }
-    };
-    let thread = std::thread::Builder::new().stack_size(kib << 10).spawn(run);
-    matches!(thread.map(|thread| thread.join()), Ok(Ok(())))
-}
-
-/// The smallest of these stacks on which all requests above are answered, each tried by a process
-/// of its own.
-fn report_stack() -> std::io::Result<()> {
-    let program = std::env::current_exe()?;
-    for kib in [64, 128, 256, 512, 768, 1_024, 1_536, 2_048, 4_096, 8_192] {
-        let output = Command::new(&program)
-            .args(["stack", &kib.to_string()])
-            .output()?;
-        if output.status.success() {
-            println!("a stack of {kib} KiB is enough for these requests");
-            return Ok(());
-        }
-    }
-    println!("8 MiB of stack are not enough");
-    Ok(())
-}
 
 /// One side alone answers a request so many times.
 fn only(side: &str, count: usize, name: &str) -> bool {
@@ -977,18 +942,10 @@ fn main() -> ExitCode {
         let ran = count.parse().is_ok_and(|count| only(side, count, name));
         return ExitCode::from(u8::from(!ran));
     }
-    if let [word, kib] = arguments.as_slice() {
-        let enough = word == "stack" && kib.parse().is_ok_and(on_stack);
-        return ExitCode::from(u8::from(!enough));
-    }
-    if let Err(what) = bench() {
-        println!("failed: {what}");
-        return ExitCode::FAILURE;
-    }
-    match report_stack() {
+    match bench() {
         Ok(()) => ExitCode::SUCCESS,
-        Err(error) => {
-            println!("{error}");
+        Err(what) => {
+            println!("failed: {what}");
             ExitCode::FAILURE
         }
     }

@@ -67,19 +67,17 @@ pub fn judge(request: &[u8], rows: &mut [Row], text: &mut [u8]) -> Reply {
     }
 }
 
+/// The line of number, line and field to the first bytes of `text`; how many they are.
+#[allow(dead_code)]
+pub fn put_refused([number, line, field]: [usize; 3], text: &mut [u8]) -> usize {
+    // SAFETY: as above.
+    unsafe { hurkoxel_refused_line(number, line, field, text.as_mut_ptr(), text.len()) }
+}
+
 /// The line that `judge` prints for a refused request; `text` has 80 bytes or more.
 #[allow(dead_code)]
 pub fn refused_line<'t>(reply: &Reply, text: &'t mut [u8]) -> &'t [u8] {
-    // SAFETY: as above.
-    let length = unsafe {
-        hurkoxel_refused_line(
-            reply.number,
-            reply.line,
-            reply.field,
-            text.as_mut_ptr(),
-            text.len(),
-        )
-    };
+    let length = put_refused([reply.number, reply.line, reply.field], text);
     &text[..length]
 }
 

@@ -4,7 +4,7 @@
 //! rt staticlib checker
 //! rustc -O --edition 2021 -L target/staticlib -l static=checker tests/entry/main.rs -o target/tests/entry
 //! target/tests/entry [SEED COUNT [EXAMPLES [CASES]]]
-//!     1, 20000, examples and crates/cases/specs/Cases if not given
+//!     1, 20000, examples and tests/cases if not given
 //! ```
 //!
 //! The same memory is lent for every request and never cleared; before some calls it is filled with
@@ -12,21 +12,22 @@
 //! text and every row is compared; a `makeall` also with the library's own answers to `make` for one
 //! participant after the other, and the first line of a `why` with the last of the library's own `make`.
 //! The rows of a `make` are given back to `check`, in order and in another order.  Every number from 1
-//! to 19 must occur, and 21.  sheets.rs does the same for sheets as tables, for a tenth of COUNT texts.
+//! to 19 must occur, and 21.  sheets.rs does the same for sheets as tables, for a tenth of COUNT texts;
+//! lines.rs has the lines of refusals.
 
 #[path = "../model/buffers.rs"]
 mod buffers;
-#[allow(dead_code)]
 #[path = "../model/cases.rs"]
 mod cases;
 #[path = "../model/gen.rs"]
 mod generate;
 mod library;
-#[path = "../model/lists.rs"]
-mod lists;
+mod lines;
 #[allow(dead_code)]
 #[path = "../model/model.rs"]
 mod model;
+#[path = "../model/notation.rs"]
+mod notation;
 mod sheets;
 #[path = "../model/tables.rs"]
 mod tables;
@@ -40,6 +41,7 @@ use std::process::ExitCode;
 use generate::{Generator, Random};
 use library::{Reply, Row};
 use model::sheets::Answer;
+use notation::Texts;
 use whys::Whys;
 
 /// So many requests of a fixed seed show every number by themselves.
@@ -201,20 +203,21 @@ fn altered(due: &Due, right: &Held) -> Vec<(&'static str, Held)> {
 }
 
 /// Right answers pass and altered ones don't; how many were tried.
-fn comparison_can_fail() -> Result<usize, String> {
-    let (t, row) = (cases::T, "row,1,0,1\n");
+fn comparison_can_fail(texts: &Texts) -> Result<usize, String> {
+    let (t, m, d) = (texts.text("T")?, texts.text("M")?, texts.text("D")?);
+    let row = "row,1,0,1\n";
     let requests = [
         format!("{t}make,0\n"),
         format!("{t}check,0\nrow,0,0,2\n{row}"),
         format!("{t}check,0\nrow,0,0,1\n{row}"),
         format!("{t}check,0\n{row}row,0,0,2\n"),
         format!("{t}play,x\nwait,499\nfire,0,1\nwait,1\nfire,0,1\n"),
-        format!("{}make,0\n", cases::D),
+        format!("{d}make,0\n"),
         format!("{t}makeall\n"),
-        format!("{}makeall\n", cases::M),
-        format!("{}makeall\n", cases::D),
+        format!("{m}makeall\n"),
+        format!("{d}makeall\n"),
         format!("{t}why,0\n"),
-        format!("{}why,0\n", cases::M),
+        format!("{m}why,0\n"),
         "bitml,2".to_string(),
     ];
     let mut tried = 0;
@@ -651,19 +654,18 @@ impl Test {
         }
     }
 
-    /// The cases of the lists, and those by hand.
-    fn cases(&mut self, lists: &Path) -> Result<usize, String> {
-        let mut cases = lists::read(lists)?;
-        cases.extend(cases::by_hand());
+    /// Requests and what is printed for them.
+    fn cases(&mut self, folder: &Path) -> Result<usize, String> {
+        let cases = cases::read(folder)?;
         for case in &cases {
             self.known(&case.name, &case.request, &case.due);
         }
         Ok(cases.len())
     }
 
-    /// Lent buffers by hand.
-    fn buffers(&mut self) -> usize {
-        let cases = buffers::by_hand();
+    /// Lent buffers.
+    fn buffers(&mut self, folder: &Path) -> Result<usize, String> {
+        let cases = buffers::read(folder)?;
         for case in &cases {
             if let Some(fault) = case.fault(call) {
                 self.failed(&case.name, &fault, &case.request, "by hand", "");
@@ -671,7 +673,7 @@ impl Test {
             let parts = Parts::of(&mut self.random, case.places, case.bytes);
             self.call(&case.name, &case.request, &parts);
         }
-        cases.len()
+        Ok(cases.len())
     }
 
     /// Each sheet NAME.txt of the folder has its verdicts by participant in NAME.expected.
@@ -787,8 +789,8 @@ impl Test {
     }
 }
 
-fn run(seed: u64, count: usize, folder: &Path, lists: &Path) -> Result<usize, String> {
-    let tried = comparison_can_fail()?;
+fn run(seed: u64, count: usize, folder: &Path, by_hand: &Path) -> Result<usize, String> {
+    let tried = comparison_can_fail(&cases::texts(by_hand)?)?;
     println!("{tried} altered answers were noticed");
     let mut test = Test {
         memory: Memory::new(),
@@ -798,7 +800,7 @@ fn run(seed: u64, count: usize, folder: &Path, lists: &Path) -> Result<usize, St
         counts: Counts::default(),
         failures: 0,
     };
-    let cases = test.cases(lists)? + test.buffers();
+    let cases = test.cases(by_hand)? + test.buffers(by_hand)?;
     let examples = test
         .examples(folder)
         .map_err(|error| format!("{}: {error}", folder.display()))?;
@@ -821,8 +823,9 @@ fn run(seed: u64, count: usize, folder: &Path, lists: &Path) -> Result<usize, St
     if !missing.is_empty() {
         return Err(format!("never met: {}", missing.join(", ")));
     }
-    let tables = sheets::run(seed, count * sheets::SHEETS / GENERATED, folder)?;
-    Ok(before.calls + test.counts.calls + tables)
+    let sheets = count * sheets::SHEETS / GENERATED;
+    let tables = sheets::run(seed, sheets, folder, by_hand)?;
+    Ok(before.calls + test.counts.calls + tables + lines::run()?)
 }
 
 fn main() -> ExitCode {
@@ -836,8 +839,8 @@ fn main() -> ExitCode {
         return ExitCode::FAILURE;
     };
     let folder = arguments.get(2).map_or("examples", String::as_str);
-    let lists = arguments.get(3).map_or(lists::FOLDER, String::as_str);
-    match run(seed, count as usize, Path::new(folder), Path::new(lists)) {
+    let by_hand = arguments.get(3).map_or(cases::FOLDER, String::as_str);
+    match run(seed, count as usize, Path::new(folder), Path::new(by_hand)) {
         Ok(calls) => {
             println!("{calls} calls compared, 0 failed");
             ExitCode::SUCCESS

@@ -328,15 +328,15 @@ impl Test {
         self.write("random cells", &table, room);
     }
 
-    fn cases(&mut self) -> usize {
-        let cases = tables::by_hand();
+    fn cases(&mut self, folder: &Path) -> Result<usize, String> {
+        let cases = tables::read(folder)?;
         for case in &cases {
             self.counts.calls += 1;
             if let Some(fault) = case.fault(read_sheet, write_sheet) {
                 self.failed.push(format!("{}: {fault}", case.name));
             }
         }
-        cases.len()
+        Ok(cases.len())
     }
 
     /// What should have occurred and did not.
@@ -359,10 +359,10 @@ fn length_of(random: &mut Random, text: &[u8]) -> usize {
 }
 
 /// So many sheets of a seed, the examples and the cases; how many calls were compared.
-pub fn run(seed: u64, count: usize, folder: &Path) -> Result<usize, String> {
+pub fn run(seed: u64, count: usize, folder: &Path, by_hand: &Path) -> Result<usize, String> {
     comparison_can_fail()?;
     let mut test = Test::new(seed);
-    let cases = test.cases();
+    let cases = test.cases(by_hand)?;
     let too_long = vec![b'a'; model::REQUEST_BYTES + 1];
     for cells in [0, SHEET_CELLS - 1, SHEET_CELLS] {
         test.read("65,537 bytes", &too_long, cells);

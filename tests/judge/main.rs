@@ -1,14 +1,22 @@
-//! The program `judge` with inputs that come in pieces, come late, break off or fail, and with
-//! outputs that fail.
+//! The program `judge` on the cases; with inputs that come in pieces, come late, break off or fail, with
+//! outputs that fail, with arguments, and with stacks and environments of several sizes.
 //!
 //! ```text
 //! rt check judge
 //! rustc -O --edition 2021 tests/judge/main.rs -o target/tests/judge
-//! target/tests/judge [JUDGE [SHEET]]     target/bin/judge, examples/timed_commitment.txt if not given
+//! target/tests/judge [JUDGE [SHEET [CASES]]]
+//!     target/bin/judge, examples/timed_commitment.txt and tests/cases if not given
 //! ```
 //!
 //! NAME.expected has the verdicts on the sheet NAME.txt, which is liquid for participant 0.  No answer
 //! hangs on a time: a piece is late because the program has ended before it would come.
+
+#[allow(dead_code)]
+#[path = "../model/cases.rs"]
+mod cases;
+#[allow(dead_code)]
+#[path = "../model/notation.rs"]
+mod notation;
 
 use std::error::Error;
 use std::fs::{File, OpenOptions};
@@ -35,6 +43,11 @@ const PATIENCE: Duration = Duration::from_secs(60);
 const PAUSE: Duration = Duration::from_millis(20);
 const OK: &str = "exit status: 0";
 const SIGPIPE: &str = "signal: 13 (SIGPIPE)";
+const SIGSEGV: &str = "signal: 11 (SIGSEGV)";
+/// As a shell has it that waited for the program.
+const AFTER_SIGPIPE: &str = "exit status: 141";
+/// The kernel's word for arguments and an environment that it does not take.
+const TOO_LONG: &str = "Argument list too long";
 
 // ---------------------------------------------------------------------------------------------
 // Requests and what is due
@@ -116,16 +129,16 @@ fn play_of_a_page() -> (String, String) {
 // ---------------------------------------------------------------------------------------------
 
 /// A pipe with these pieces, and then its end.
-fn pieces(pieces: &[&str]) -> Tried<PipeReader> {
+fn pieces<P: AsRef<[u8]>>(pieces: &[P]) -> Tried<PipeReader> {
     let (reader, mut writer) = pipe()?;
-    let pieces: Vec<String> = pieces.iter().map(|piece| piece.to_string()).collect();
+    let pieces: Vec<Vec<u8>> = pieces.iter().map(|piece| piece.as_ref().to_vec()).collect();
     thread::spawn(move || {
         for (index, piece) in pieces.iter().enumerate() {
             if index > 0 {
                 thread::sleep(PAUSE);
             }
             // The program reads no more of a request that is too long.
-            if writer.write_all(piece.as_bytes()).is_err() {
+            if writer.write_all(piece).is_err() {
                 return;
             }
         }
@@ -158,6 +171,16 @@ fn impatient_output() -> Tried<(PipeReader, File)> {
     let mut options = OpenOptions::new();
     let writer = options.write(true).custom_flags(O_NONBLOCK).open(name)?;
     Ok((reader, writer))
+}
+
+/// Variables that take so many KiB, with the zeros behind them; one alone could not take so many.
+fn variables(kib: usize) -> Vec<(String, String)> {
+    let variable = |number: usize| {
+        let name = format!("V{number:04}");
+        let value = "x".repeat(1_024 - name.len() - "=\0".len());
+        (name, value)
+    };
+    (0..kib).map(variable).collect()
 }
 
 /// Fills a pipe but for one page; how many bytes it holds then.
@@ -193,17 +216,30 @@ fn shown(bytes: &[u8]) -> String {
 }
 
 impl Test {
-    /// The program by way of a shell script, in which it is `$0`.  Our own copies of its input and
-    /// output are closed once it has started.
+    /// A shell script in which the program is `$0`.
+    fn script(&self, script: &str) -> Command {
+        let mut command = Command::new("sh");
+        command.arg("-c").arg(script).arg(&self.judge);
+        command.stderr(Stdio::piped());
+        command
+    }
+
+    /// The program by way of a shell script.  Our own copies of its input and output are closed once it
+    /// has started.
     fn shell(
         &self,
         script: &str,
         input: impl Into<Stdio>,
         output: impl Into<Stdio>,
     ) -> Tried<Child> {
-        let mut command = Command::new("sh");
-        command.arg("-c").arg(script).arg(&self.judge);
-        command.stdin(input).stdout(output).stderr(Stdio::piped());
+        Ok(self.script(script).stdin(input).stdout(output).spawn()?)
+    }
+
+    /// The same with a stack of so many KiB, and an environment that takes so many.
+    fn limited(&self, stack: usize, environment: usize, request: &str) -> Tried<Child> {
+        let mut command = self.script(&format!("ulimit -c 0 && ulimit -s {stack} && exec \"$0\""));
+        command.env_clear().envs(variables(environment));
+        command.stdin(pieces(&[request])?).stdout(Stdio::piped());
         Ok(command.spawn()?)
     }
 
@@ -227,12 +263,17 @@ impl Test {
         Ok(output.stdout)
     }
 
-    fn answers(&mut self, name: &str, input: impl Into<Stdio>, due: &str) -> Tried<()> {
-        let child = self.start(input, Stdio::piped())?;
-        let got = self.ends(name, OK, child)?;
+    /// The program ends so, and writes this.
+    fn writes(&mut self, name: &str, end: &str, due: &str, child: Child) -> Tried<()> {
+        let got = self.ends(name, end, child)?;
         let due = due.as_bytes();
         self.case(name, got == due, &shown(due), &shown(&got));
         Ok(())
+    }
+
+    fn answers(&mut self, name: &str, input: impl Into<Stdio>, due: &str) -> Tried<()> {
+        let child = self.start(input, Stdio::piped())?;
+        self.writes(name, OK, due, child)
     }
 
     /// A beginning of the answer arrived, and so not the whole of its last line.
@@ -242,6 +283,14 @@ impl Test {
             && answer.as_bytes().starts_with(got)
             && !got.ends_with(format!("{last}\n").as_bytes());
         self.case(name, holds, "a beginning of the answer", &shown(got));
+    }
+
+    /// Requests and what is printed for them.
+    fn by_hand(&mut self, folder: &Path) -> Tried<()> {
+        for case in cases::read(folder)? {
+            self.answers(&case.name, pieces(&[&case.request])?, &case.due)?;
+        }
+        Ok(())
     }
 
     fn in_pieces(&mut self, r: &Requests) -> Tried<()> {
@@ -303,11 +352,8 @@ impl Test {
         self.answers("a folder", File::open("/")?, "")?;
         let input = OpenOptions::new().write(true).open("/dev/null")?;
         self.answers("an input open for writing alone", input, "")?;
-        let name = "a closed input";
         let child = self.shell("exec \"$0\" <&-", Stdio::null(), Stdio::piped())?;
-        let got = self.ends(name, OK, child)?;
-        self.case(name, got.is_empty(), "\"\"", &shown(&got));
-        Ok(())
+        self.writes("a closed input", OK, "", child)
     }
 
     fn lengths(&mut self) -> Tried<()> {
@@ -323,10 +369,7 @@ impl Test {
         let (reader, mut writer) = pipe()?;
         let child = self.start(reader, Stdio::piped())?;
         writer.write_all(&[b'x'; LONGEST + 1])?;
-        let name = "65,537 bytes and no end";
-        let got = self.ends(name, OK, child)?;
-        self.case(name, got == b"refused,1,0,0\n", "refused", &shown(&got));
-        Ok(())
+        self.writes("65,537 bytes and no end", OK, "refused,1,0,0\n", child)
     }
 
     fn outputs_that_wait(&mut self) -> Tried<()> {
@@ -376,10 +419,64 @@ impl Test {
                 self.cut(name, &answer, &got);
             }
         }
+        // It went away before anything is written.
+        for (script, due) in [
+            ("exec \"$0\"", SIGPIPE),
+            ("\"$0\"; exit $?", AFTER_SIGPIPE),
+            ("trap '' PIPE; exec \"$0\"", OK),
+        ] {
+            let (_, writer) = pipe()?;
+            let child = self.shell(script, pieces(&[&r.make])?, writer)?;
+            self.ends("a reader that is gone", due, child)?;
+        }
         Ok(())
     }
 
-    fn all(&mut self, sheet: &Path) -> Tried<()> {
+    /// No argument is looked at.
+    fn arguments(&mut self, r: &Requests) -> Tried<()> {
+        for arguments in ["--help", "make,1", "-", "\"\" \"\"", "/dev/null x"] {
+            let script = format!("exec \"$0\" {arguments}");
+            let child = self.shell(&script, pieces(&[&r.make])?, Stdio::piped())?;
+            let name = format!("with the arguments {arguments}");
+            self.writes(&name, OK, &r.made, child)?;
+        }
+        Ok(())
+    }
+
+    /// Too small a stack ends it with nothing written.  What its arguments and environment take comes out
+    /// of the stack; with too many of them the kernel does not start it.  tests/stack has the deepest requests.
+    fn stacks(&mut self, r: &Requests) -> Tried<()> {
+        for stack in [128, 512, 768] {
+            let name = format!("a stack of {stack} KiB");
+            let child = self.limited(stack, 0, &r.make)?;
+            self.writes(&name, SIGSEGV, "", child)?;
+        }
+        for (stack, environment) in [(1_280, 0), (1_280, 200), (1_280, 256), (5_120, 1_024)] {
+            let name = format!("a stack of {stack} KiB, {environment} KiB of environment");
+            let child = self.limited(stack, environment, &r.make)?;
+            self.writes(&name, OK, &r.made, child)?;
+        }
+        // Enough for the program, but the environment takes the rest of it.
+        let (stack, environment) = (1_000, 240);
+        let child = self.limited(stack, environment, &r.make)?;
+        self.writes("an environment in its way", SIGSEGV, "", child)?;
+
+        let name = "an environment of a quarter of the stack";
+        for environment in [320, 1_024] {
+            let child = self.limited(1_280, environment, &r.make)?;
+            let output = child.wait_with_output()?;
+            let said = String::from_utf8_lossy(&output.stderr);
+            let holds = output.status.code() == Some(126) && said.contains(TOO_LONG);
+            let got = format!("{} {said}", output.status);
+            self.case(name, holds, "not started", &got);
+            let nothing = output.stdout.is_empty();
+            self.case(name, nothing, "\"\"", &shown(&output.stdout));
+        }
+        Ok(())
+    }
+
+    fn all(&mut self, sheet: &Path, folder: &Path) -> Tried<()> {
+        self.by_hand(folder)?;
         let verdicts = std::fs::read_to_string(sheet.with_extension("expected"))?;
         let sheet = std::fs::read_to_string(sheet)?;
         let mut made = Vec::new();
@@ -393,7 +490,9 @@ impl Test {
         self.inputs_that_fail(&requests)?;
         self.lengths()?;
         self.outputs_that_wait()?;
-        self.outputs_that_fail(&requests)
+        self.outputs_that_fail(&requests)?;
+        self.arguments(&requests)?;
+        self.stacks(&requests)
     }
 }
 
@@ -402,6 +501,7 @@ fn main() -> ExitCode {
     let mut next = |default: &str| PathBuf::from(arguments.next().unwrap_or(default.to_string()));
     let judge = next("target/bin/judge");
     let sheet = next("examples/timed_commitment.txt");
+    let folder = next(cases::FOLDER);
     thread::spawn(|| {
         thread::sleep(PATIENCE);
         println!("FAILED: the program does not end");
@@ -413,7 +513,7 @@ fn main() -> ExitCode {
         cases,
         failures,
     };
-    let run = test.all(&sheet);
+    let run = test.all(&sheet, &folder);
     println!("{} cases, {} failed", test.cases, test.failures);
     match run {
         Ok(()) if test.failures == 0 => ExitCode::SUCCESS,

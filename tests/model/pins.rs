@@ -3,52 +3,43 @@
 use crate::cases::Case;
 use crate::generate::Generator;
 use crate::model::sheets::{read_sheet, write_sheet};
-use crate::model::wrong::{all, turn, Rule, Wrong, LARGE, OF_TABLES};
+use crate::model::wrong::{all, turn, Rule, Wrong, OF_TABLES};
 use crate::model::{call, judge};
 use crate::{buffers, tables};
 use std::panic::{catch_unwind, set_hook, take_hook};
 
-/// The names of the cases to which the model answers otherwise than is due.  A wrong rule may make it
-/// panic.
-fn caught(cases: &[Case], wrong: Option<Wrong>) -> Vec<&str> {
-    named(
-        cases,
-        wrong,
-        |case| &case.name,
-        |case| judge(&case.request).0.printed() == case.due,
-    )
+/// All cases: requests, and for what no request shows sheets as tables and lent buffers.
+struct Cases<'c> {
+    requests: Vec<Case>,
+    tables: &'c [tables::Case],
+    buffers: &'c [buffers::Case],
 }
 
-fn caught_by_tables(cases: &[tables::Case], wrong: Option<Wrong>) -> Vec<&str> {
-    named(
-        cases,
-        wrong,
-        |case| &case.name,
-        |case| case.fault(read_sheet, write_sheet).is_none(),
-    )
+impl Cases<'_> {
+    /// The name of the first case that is answered otherwise than is due.
+    fn first(&self) -> Option<&str> {
+        let printed = |case: &Case| judge(&case.request).0.printed() == case.due;
+        let lent = |case: &buffers::Case| case.fault(call).is_none();
+        let by_request = first(&self.requests, |case| &case.name, printed);
+        by_request
+            .or_else(|| self.first_table())
+            .or_else(|| first(self.buffers, |case| &case.name, lent))
+    }
+
+    fn first_table(&self) -> Option<&str> {
+        let held = |case: &tables::Case| case.fault(read_sheet, write_sheet).is_none();
+        first(self.tables, |case| &case.name, held)
+    }
 }
 
-fn caught_by_buffers(cases: &[buffers::Case], wrong: Option<Wrong>) -> Vec<&str> {
-    named(
-        cases,
-        wrong,
-        |case| &case.name,
-        |case| case.fault(call).is_none(),
-    )
-}
-
-/// The names of the cases for which this does not hold.
-fn named<C: std::panic::RefUnwindSafe>(
+/// The name of the first case for which this does not hold.  A wrong rule may make the model panic.
+fn first<C: std::panic::RefUnwindSafe>(
     cases: &[C],
-    wrong: Option<Wrong>,
     name: fn(&C) -> &str,
     holds: fn(&C) -> bool,
-) -> Vec<&str> {
-    turn(wrong);
+) -> Option<&str> {
     let other = |case: &&C| !catch_unwind(|| holds(case)).is_ok_and(|holds| holds);
-    let names = cases.iter().filter(other).map(name).collect();
-    turn(None);
-    names
+    cases.iter().find(other).map(name)
 }
 
 /// Is this a limit of tables?
@@ -78,52 +69,26 @@ fn generated(wrong: Wrong) -> usize {
     requests.filter(other).count()
 }
 
-/// `lists` are the cases of the lists, `large` those that are too long for them.  What no request shows is
-/// caught by `tables`, the cases of sheets as tables, or by `buffers`, those of lent buffers.
-pub fn test(
-    lists: &[Case],
-    large: &[Case],
-    tables: &[tables::Case],
-    buffers: &[buffers::Case],
-) -> bool {
-    let mut failures: Vec<String> = Vec::new();
-    let right = [
-        caught(lists, None),
-        caught(large, None),
-        caught_by_tables(tables, None),
-        caught_by_buffers(buffers, None),
-    ];
-    for name in right.concat() {
-        failures.push(format!("with no wrong rule on, {name}"));
-    }
-    let hook = take_hook();
-    set_hook(Box::new(|_| {}));
-    let rules = all();
-    let mut once = 0;
-    for wrong in &rules {
-        let by_lists = caught(lists, Some(*wrong));
-        let is_large = LARGE.contains(wrong);
-        if is_large && !by_lists.is_empty() {
-            failures.push(format!("{wrong:?} is marked large, and a list catches it"));
-        }
-        let by = if is_large {
-            caught(large, Some(*wrong))
-        } else if by_lists.is_empty() {
-            let by_tables = caught_by_tables(tables, Some(*wrong));
-            [by_tables, caught_by_buffers(buffers, Some(*wrong))].concat()
-        } else {
-            by_lists
-        };
-        once += usize::from(by.len() == 1);
-        match by.first() {
-            Some(first) => println!("  {wrong:?}: {}, first {first}", by.len()),
+/// Each wrong rule that no case catches, and each limit of tables that no table does.
+fn not_caught(cases: &Cases, rules: &[Wrong]) -> Vec<String> {
+    let mut failures = Vec::new();
+    for wrong in rules {
+        turn(Some(*wrong));
+        match cases.first() {
+            Some(name) => println!("  {wrong:?}: {name}"),
             None => failures.push(format!("no case catches {wrong:?}: {}", wrong.says())),
         }
-        if of_tables(wrong) && caught_by_tables(tables, Some(*wrong)).is_empty() {
+        if of_tables(wrong) && cases.first_table().is_none() {
             failures.push(format!("no table catches {wrong:?}: {}", wrong.says()));
         }
     }
-    set_hook(hook);
+    turn(None);
+    failures
+}
+
+/// Each wrong rule that too few generated requests turn on.
+fn too_seldom() -> Vec<String> {
+    let mut failures = Vec::new();
     for (share, rule, what) in SHARES {
         let shown = generated(Wrong::Rule(rule));
         println!("  {shown} of {GENERATED} generated requests turn on {what}");
@@ -131,14 +96,35 @@ pub fn test(
             failures.push(format!("under {share} in a hundred turn on {what}"));
         }
     }
+    failures
+}
+
+pub fn test(mut requests: Vec<Case>, tables: &[tables::Case], buffers: &[buffers::Case]) -> bool {
+    // Short ones first: most rules are caught before a long one is tried.
+    requests.sort_by_key(|case| case.request.len());
+    let cases = Cases {
+        requests,
+        tables,
+        buffers,
+    };
+    let right = cases.first();
+    let mut failures: Vec<String> = right
+        .map(|name| format!("with no wrong rule on, {name}"))
+        .into_iter()
+        .collect();
+    let rules = all();
+    let hook = take_hook();
+    set_hook(Box::new(|_| {}));
+    failures.extend(not_caught(&cases, &rules));
+    set_hook(hook);
+    failures.extend(too_seldom());
     for failure in &failures {
         println!("FAILED: {failure}");
     }
     println!(
-        "{} wrong rules, {} of them tried by long requests, {once} caught by one case only; {} cases of the lists, {} of tables, {} of buffers, {} failed",
+        "{} wrong rules; {} cases of requests, {} of tables, {} of buffers; {} failed",
         rules.len(),
-        LARGE.len(),
-        lists.len(),
+        cases.requests.len(),
         tables.len(),
         buffers.len(),
         failures.len()

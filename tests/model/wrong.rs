@@ -258,23 +258,6 @@ mod switch {
         };
     }
 
-    /// These need requests so long that only cases.rs has them, not the lists.
-    pub const LARGE: &[Wrong] = &[
-        Wrong::More(Limit::Nodes),
-        Wrong::Fewer(Limit::Nodes),
-        Wrong::More(Limit::Branches),
-        Wrong::Fewer(Limit::Branches),
-        Wrong::More(Limit::Rows),
-        Wrong::Fewer(Limit::Rows),
-        Wrong::Order(7, 5),
-        Wrong::Order(8, 7),
-        Wrong::Rule(Rule::NodesByDefinition),
-        Wrong::Rule(Rule::BranchesByDefinition),
-        Wrong::Rule(Rule::BranchesForetold),
-        Wrong::Rule(Rule::ComparedAsBytes),
-        Wrong::Rule(Rule::StepNodesAsBytes),
-    ];
-
     /// Pairs of refusals that may both apply at one field, row or event.
     const ORDERS: &[(u32, u32)] = &[
         (4, 3),

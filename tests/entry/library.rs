@@ -4,6 +4,9 @@
 pub const ROWS: usize = 512;
 pub const ALL_ROWS: usize = 8_192;
 pub const TEXT: usize = 180_224;
+/// The cells of a table; not every program that uses the library has one.
+#[allow(dead_code)]
+pub const CELLS: usize = 52_072;
 
 #[repr(C)]
 #[derive(Clone, Copy, Debug, Default, PartialEq, Eq)]

@@ -154,52 +154,80 @@ struct Held {
     text: Vec<u8>,
 }
 
-/// The ways in which an answer that is due may be wrong in one place.
-fn altered(due: &Due, right: &Held) -> Vec<(&'static str, Held)> {
-    let mut all = Vec::new();
-    let mut alter = |name, change: &dyn Fn(&mut Held)| {
-        let mut held = right.clone();
+/// A right answer, and copies of it that are wrong in one place each, with the name of that place.
+struct Altered<'r> {
+    right: &'r Held,
+    all: Vec<(&'static str, Held)>,
+}
+
+impl Altered<'_> {
+    fn add(&mut self, name: &'static str, change: impl Fn(&mut Held)) {
+        let mut held = self.right.clone();
         change(&mut held);
-        all.push((name, held));
-    };
-    let (past, bytes) = (due.rows.len(), due.text.len());
-    let mut places = (0..past).filter(|place| due.rows[*place].rank > 0);
-    let (first, last) = (places.next(), places.next_back());
-    alter("number", &|held| held.reply.number += 1);
-    alter("line", &|held| held.reply.line += 1);
-    alter("field", &|held| held.reply.field += 1);
-    alter("length", &|held| held.reply.length += 1);
-    alter("the first byte past the text", &|held| {
-        held.text[bytes] = b'\n'
-    });
-    alter("the last byte of the buffer", &|held| {
-        *held.text.last_mut().unwrap() = 1
-    });
-    alter("a node past the rows", &|held| held.rows[past].node = 1);
-    alter("a branch past the rows", &|held| held.rows[past].branch = 1);
-    alter("the last rank of the buffer", &|held| {
-        held.rows.last_mut().unwrap().rank = 1
-    });
-    if bytes > 0 {
-        alter("the first byte", &|held| held.text[0] ^= 1);
-        alter("the last LF", &|held| held.text[bytes - 1] = 0);
-        alter("a byte less", &|held| held.reply.length -= 1);
-        alter("no text", &|held| held.text.fill(0));
+        self.all.push((name, held));
     }
-    if let (Some(first), Some(last)) = (first, last) {
-        alter("a node", &|held| held.rows[last].node += 1);
-        alter("a branch", &|held| held.rows[first].branch += 1);
-        alter("a rank", &|held| held.rows[first].rank += 1);
-        alter("the first place behind", &|held| {
+
+    fn reply(&mut self) {
+        self.add("number", |held| held.reply.number += 1);
+        self.add("line", |held| held.reply.line += 1);
+        self.add("field", |held| held.reply.field += 1);
+        self.add("length", |held| held.reply.length += 1);
+    }
+
+    /// Something stands past so many bytes and so many rows.
+    fn past(&mut self, bytes: usize, rows: usize) {
+        self.add("the first byte past the text", |held| {
+            held.text[bytes] = b'\n'
+        });
+        self.add("the last byte of the buffer", |held| {
+            *held.text.last_mut().unwrap() = 1
+        });
+        self.add("a node past the rows", |held| held.rows[rows].node = 1);
+        self.add("a branch past the rows", |held| held.rows[rows].branch = 1);
+        self.add("the last rank of the buffer", |held| {
+            held.rows.last_mut().unwrap().rank = 1
+        });
+    }
+
+    /// In a text of so many bytes.
+    fn text(&mut self, bytes: usize) {
+        self.add("the first byte", |held| held.text[0] ^= 1);
+        self.add("the last LF", |held| held.text[bytes - 1] = 0);
+        self.add("a byte less", |held| held.reply.length -= 1);
+        self.add("no text", |held| held.text.fill(0));
+    }
+
+    /// In rows from a first to a last.
+    fn rows(&mut self, first: usize, last: usize) {
+        self.add("a node", |held| held.rows[last].node += 1);
+        self.add("a branch", |held| held.rows[first].branch += 1);
+        self.add("a rank", |held| held.rows[first].rank += 1);
+        self.add("the first place behind", |held| {
             held.rows[last + 1].rank = 1
         });
-        alter("no rows", &|held| held.rows.fill(Row::default()));
-        alter("rows in another order", &|held| held.rows.swap(first, last));
-        alter("the last row a place on", &|held| {
+        self.add("no rows", |held| held.rows.fill(Row::default()));
+        self.add("rows in another order", |held| held.rows.swap(first, last));
+        self.add("the last row a place on", |held| {
             held.rows.swap(last, last + 1)
         });
     }
-    all
+}
+
+/// The ways in which an answer that is due may be wrong in one place.
+fn altered(due: &Due, right: &Held) -> Vec<(&'static str, Held)> {
+    let all = Vec::new();
+    let mut altered = Altered { right, all };
+    let (rows, bytes) = (due.rows.len(), due.text.len());
+    altered.reply();
+    altered.past(bytes, rows);
+    if bytes > 0 {
+        altered.text(bytes);
+    }
+    let mut places = (0..rows).filter(|place| due.rows[*place].rank > 0);
+    if let (Some(first), Some(last)) = (places.next(), places.next_back()) {
+        altered.rows(first, last);
+    }
+    altered.all
 }
 
 /// Right answers pass and altered ones don't; how many were tried.

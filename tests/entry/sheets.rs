@@ -7,8 +7,9 @@ use std::ops::Range;
 use std::path::Path;
 
 use crate::generate::{Generator, Random};
-use crate::model::sheets::{self, Answer, SHEET_CELLS};
-use crate::{library, model, tables};
+use crate::library::{self, CELLS};
+use crate::model::sheets::{self, Answer};
+use crate::{model, tables};
 
 /// So many texts of a fixed seed show every number.
 pub const SHEETS: usize = 2_000;
@@ -94,8 +95,8 @@ fn shown(text: &[u8]) -> String {
 
 /// A difference in any one place is noticed.
 fn comparison_can_fail() -> Result<(), String> {
-    let mut memory = Memory::new(SHEET_CELLS, 7);
-    for place in [0, 1, SHEET_CELLS / 2, SHEET_CELLS - 1] {
+    let mut memory = Memory::new(CELLS, 7);
+    for place in [0, 1, CELLS / 2, CELLS - 1] {
         memory.library[place] = 8;
         if memory.difference() != Some(place) {
             return Err(format!("an altered cell passes: {place}"));
@@ -129,7 +130,7 @@ impl Test {
     pub fn new(seed: u64) -> Test {
         Test {
             random: Random::new(seed),
-            cells: Memory::new(SHEET_CELLS + 1_000, usize::MAX),
+            cells: Memory::new(CELLS + 1_000, usize::MAX),
             text: Memory::new(model::SHEET_BYTES + 1_000, b'?'),
             counts: Counts::default(),
             failed: Vec::new(),
@@ -208,17 +209,17 @@ impl Test {
         }
     }
 
-    /// A text both ways, with short tables, and with something behind it.
+    /// A text both ways: now and then also with a short table and with something behind it.
     fn both_ways(&mut self, name: &str, text: &[u8]) {
-        let short = self.random.below(SHEET_CELLS);
-        let short = self.random.pick(&[0, 1, SHEET_CELLS - 1, short]);
-        let long = self.random.between(SHEET_CELLS, self.cells.library.len());
+        let short = self.random.below(CELLS);
+        let short = self.random.pick(&[0, 1, CELLS - 1, short]);
+        let long = self.random.between(CELLS, self.cells.library.len());
         let few = self.random.chance(10);
         if few {
             self.read(name, text, short);
         }
-        let count = self.random.pick(&[SHEET_CELLS, SHEET_CELLS, long]);
-        let (answer, mut table) = self.read(name, text, count);
+        let count = self.random.pick(&[CELLS, CELLS, long]);
+        let (answer, table) = self.read(name, text, count);
         if answer.number != 0 {
             // Zeros are no sheet.
             self.write(name, &table, 100);
@@ -228,20 +229,33 @@ impl Test {
         if few {
             let room = length_of(&mut self.random, text);
             self.write(name, &table[..short], room);
-            let behind: &[&[u8]] = &[b"\n", b"x", b",", b"make,0\n", b"def,1,0,c,0\n", text];
-            let more = [text, self.random.pick(behind)].concat();
-            self.read(name, &more, SHEET_CELLS);
+            self.more_behind(name, text);
         }
-        // What stands past the counts is not looked at.
         if self.random.chance(20) {
-            let held = sheets::held(&table);
-            let mut marked: Vec<usize> =
-                table.iter().map(|_| self.random.next() as usize).collect();
-            for section in held {
-                marked[section.clone()].copy_from_slice(&table[section]);
-            }
-            self.back(name, text, &marked);
+            self.garbage_past_the_counts(name, text, &table);
         }
+        self.changed_cells(name, text, table);
+    }
+
+    /// The same text with something behind it.
+    fn more_behind(&mut self, name: &str, text: &[u8]) {
+        let behind: &[&[u8]] = &[b"\n", b"x", b",", b"make,0\n", b"def,1,0,c,0\n", text];
+        let more = [text, self.random.pick(behind)].concat();
+        self.read(name, &more, CELLS);
+    }
+
+    /// What stands past the counts of a table is not looked at.
+    fn garbage_past_the_counts(&mut self, name: &str, text: &[u8], table: &[usize]) {
+        let garbage = table.iter().map(|_| self.random.next() as usize);
+        let mut marked: Vec<usize> = garbage.collect();
+        for section in sheets::held(table) {
+            marked[section.clone()].copy_from_slice(&table[section]);
+        }
+        self.back(name, text, &marked);
+    }
+
+    /// Tables with other numbers in a few cells, most of which are no sheet.
+    fn changed_cells(&mut self, name: &str, text: &[u8], mut table: Vec<usize>) {
         for _ in 0..4 {
             let room = length_of(&mut self.random, text);
             let changes = self.random.pick(&[1, 1, 1, 2, 3]);
@@ -283,7 +297,7 @@ impl Test {
 
     /// Every cell that a small sheet holds, with several numbers in its place.
     fn every_cell(&mut self, name: &str, text: &[u8]) {
-        let (answer, mut table) = self.read(name, text, SHEET_CELLS);
+        let (answer, mut table) = self.read(name, text, CELLS);
         if answer.number != 0 {
             self.failed.push(format!("{name} is not read"));
             return;
@@ -313,9 +327,7 @@ impl Test {
     /// Tables of random numbers: any, small, or with a header in its ranges.
     fn nonsense(&mut self) {
         let bound = self.random.pick(&[1, 2, 3, 5, 17, 1_025, usize::MAX]);
-        let length = self
-            .random
-            .pick(&[SHEET_CELLS, SHEET_CELLS + 10, SHEET_CELLS - 1, 20_000]);
+        let length = self.random.pick(&[CELLS, CELLS + 10, CELLS - 1, 20_000]);
         let mut table: Vec<usize> = (0..length).map(|_| self.random.below(bound)).collect();
         if self.random.chance(70) {
             for (place, most) in [16, 32, 512, 1_024, 8_960, 32_768].into_iter().enumerate() {
@@ -328,6 +340,28 @@ impl Test {
         self.write("random cells", &table, room);
     }
 
+    /// Texts that are too long for any request, and just not.
+    fn too_long(&mut self) {
+        let text = vec![b'a'; model::REQUEST_BYTES + 1];
+        for cells in [0, CELLS - 1, CELLS] {
+            self.read("65,537 bytes", &text, cells);
+            self.read("65,536 bytes", &text[1..], cells);
+        }
+    }
+
+    /// So many sheets of a seed, and as many tables that are none.
+    fn generated(&mut self, seed: u64, count: usize) {
+        let mut generator = Generator::new(seed);
+        for index in 0..count {
+            let text = generator.sheet_text();
+            self.both_ways(&format!("sheet {index} of seed {seed}"), &text);
+            self.nonsense();
+            if self.failed.len() >= crate::FAILURES {
+                return;
+            }
+        }
+    }
+
     fn cases(&mut self, folder: &Path) -> Result<usize, String> {
         let cases = tables::read(folder)?;
         for case in &cases {
@@ -337,6 +371,24 @@ impl Test {
             }
         }
         Ok(cases.len())
+    }
+
+    fn report(&self, cases: usize) {
+        let Counts {
+            calls,
+            read,
+            written,
+            longest,
+        } = &self.counts;
+        println!(
+            "tables: {cases} cases, {calls} calls; read {}, written {}, longest text {longest}",
+            read[0], written[0]
+        );
+        println!(
+            "  refused by number, reading {:?}, writing {:?}",
+            &read[1..10],
+            [written[3], written[20]]
+        );
     }
 
     /// What should have occurred and did not.
@@ -363,47 +415,21 @@ pub fn run(seed: u64, count: usize, folder: &Path, by_hand: &Path) -> Result<usi
     comparison_can_fail()?;
     let mut test = Test::new(seed);
     let cases = test.cases(by_hand)?;
-    let too_long = vec![b'a'; model::REQUEST_BYTES + 1];
-    for cells in [0, SHEET_CELLS - 1, SHEET_CELLS] {
-        test.read("65,537 bytes", &too_long, cells);
-        test.read("65,536 bytes", &too_long[1..], cells);
-    }
+    test.too_long();
     for (name, sheet) in crate::sheets_of(folder).map_err(|error| error.to_string())? {
         test.every_cell(&name, sheet.as_bytes());
     }
-    let mut generator = Generator::new(seed);
-    for index in 0..count {
-        let text = generator.sheet_text();
-        test.both_ways(&format!("sheet {index} of seed {seed}"), &text);
-        test.nonsense();
-        if test.failed.len() >= crate::FAILURES {
-            break;
-        }
-    }
+    test.generated(seed, count);
     for failure in test.failed.iter().take(crate::FAILURES) {
         println!("FAILED: {failure}");
     }
     if !test.failed.is_empty() {
         return Err(format!("tables: {} failed", test.failed.len()));
     }
-    let Counts {
-        calls,
-        read,
-        written,
-        longest,
-    } = &test.counts;
-    println!(
-        "tables: {cases} cases, {calls} calls; read {}, written {}, longest text {longest}",
-        read[0], written[0]
-    );
-    println!(
-        "  refused by number, reading {:?}, writing {:?}",
-        &read[1..10],
-        [written[3], written[20]]
-    );
+    test.report(cases);
     let missing = test.missing();
     if count >= SHEETS && !missing.is_empty() {
         return Err(format!("never met: {}", missing.join(", ")));
     }
-    Ok(*calls)
+    Ok(test.counts.calls)
 }

@@ -1,5 +1,5 @@
 //! The program `judge` on the cases; with inputs that come in pieces, come late, break off or fail, with
-//! outputs that fail, with arguments, and with stacks and environments of several sizes.
+//! outputs that fail, and with arguments.  tests/stack has its stacks and environments.
 //!
 //! ```text
 //! rt check judge
@@ -14,6 +14,7 @@
 #[allow(dead_code)]
 #[path = "../model/cases.rs"]
 mod cases;
+mod longest;
 #[allow(dead_code)]
 #[path = "../model/notation.rs"]
 mod notation;
@@ -29,10 +30,10 @@ use std::process::{Child, Command, ExitCode, Stdio};
 use std::thread;
 use std::time::Duration;
 
+use longest::{longest_play, LONGEST, PLAY};
+
 type Tried<T> = Result<T, Box<dyn Error>>;
 
-/// The bytes of the longest request.
-const LONGEST: usize = 65_536;
 /// Bytes of a page, of which a pipe's memory is made.
 const PAGE: usize = 4096;
 /// Linux's flag of an open file that never waits.
@@ -43,11 +44,8 @@ const PATIENCE: Duration = Duration::from_secs(60);
 const PAUSE: Duration = Duration::from_millis(20);
 const OK: &str = "exit status: 0";
 const SIGPIPE: &str = "signal: 13 (SIGPIPE)";
-const SIGSEGV: &str = "signal: 11 (SIGSEGV)";
 /// As a shell has it that waited for the program.
 const AFTER_SIGPIPE: &str = "exit status: 141";
-/// The kernel's word for arguments and an environment that it does not take.
-const TOO_LONG: &str = "Argument list too long";
 
 // ---------------------------------------------------------------------------------------------
 // Requests and what is due
@@ -93,27 +91,6 @@ impl Requests {
             check,
         })
     }
-}
-
-const PLAY: &str = "bitml,1,1\ndef,1,0,c,0\nplay\n";
-
-/// A play of 65,536 bytes and its answer, which is longer than a pipe holds: after the first event
-/// the time is at its limit.
-fn longest_play() -> (String, String) {
-    let mut request = format!("{PLAY}wait,4294967295\n");
-    let mut answer = String::from("taken\n");
-    let mut line = 5;
-    while request.len() < LONGEST {
-        // What is left at the end goes to the digits of the last number.
-        let digits = match LONGEST - request.len() {
-            left @ 7..14 => left - 6,
-            _ => 1,
-        };
-        request += &format!("wait,{}\n", "1".repeat(digits));
-        answer += &format!("refused,19,{line},0\n");
-        line += 1;
-    }
-    (request, answer + "end,4294967295,1,0\n")
 }
 
 /// A play whose answer is a page, and then its last LF.
@@ -173,16 +150,6 @@ fn impatient_output() -> Tried<(PipeReader, File)> {
     Ok((reader, writer))
 }
 
-/// Variables that take so many KiB, with the zeros behind them; one alone could not take so many.
-fn variables(kib: usize) -> Vec<(String, String)> {
-    let variable = |number: usize| {
-        let name = format!("V{number:04}");
-        let value = "x".repeat(1_024 - name.len() - "=\0".len());
-        (name, value)
-    };
-    (0..kib).map(variable).collect()
-}
-
 /// Fills a pipe but for one page; how many bytes it holds then.
 fn fill_but_a_page(reader: &mut PipeReader, writer: &mut File) -> Tried<usize> {
     let mut held = 0;
@@ -216,30 +183,17 @@ fn shown(bytes: &[u8]) -> String {
 }
 
 impl Test {
-    /// A shell script in which the program is `$0`.
-    fn script(&self, script: &str) -> Command {
-        let mut command = Command::new("sh");
-        command.arg("-c").arg(script).arg(&self.judge);
-        command.stderr(Stdio::piped());
-        command
-    }
-
-    /// The program by way of a shell script.  Our own copies of its input and output are closed once it
-    /// has started.
+    /// The program by way of a shell script, in which it is `$0`.  Our own copies of its input and output are
+    /// closed once it has started.
     fn shell(
         &self,
         script: &str,
         input: impl Into<Stdio>,
         output: impl Into<Stdio>,
     ) -> Tried<Child> {
-        Ok(self.script(script).stdin(input).stdout(output).spawn()?)
-    }
-
-    /// The same with a stack of so many KiB, and an environment that takes so many.
-    fn limited(&self, stack: usize, environment: usize, request: &str) -> Tried<Child> {
-        let mut command = self.script(&format!("ulimit -c 0 && ulimit -s {stack} && exec \"$0\""));
-        command.env_clear().envs(variables(environment));
-        command.stdin(pieces(&[request])?).stdout(Stdio::piped());
+        let mut command = Command::new("sh");
+        command.arg("-c").arg(script).arg(&self.judge);
+        command.stdin(input).stdout(output).stderr(Stdio::piped());
         Ok(command.spawn()?)
     }
 
@@ -443,38 +397,6 @@ impl Test {
         Ok(())
     }
 
-    /// Too small a stack ends it with nothing written.  What its arguments and environment take comes out
-    /// of the stack; with too many of them the kernel does not start it.  tests/stack has the deepest requests.
-    fn stacks(&mut self, r: &Requests) -> Tried<()> {
-        for stack in [128, 512, 768] {
-            let name = format!("a stack of {stack} KiB");
-            let child = self.limited(stack, 0, &r.make)?;
-            self.writes(&name, SIGSEGV, "", child)?;
-        }
-        for (stack, environment) in [(1_280, 0), (1_280, 200), (1_280, 256), (5_120, 1_024)] {
-            let name = format!("a stack of {stack} KiB, {environment} KiB of environment");
-            let child = self.limited(stack, environment, &r.make)?;
-            self.writes(&name, OK, &r.made, child)?;
-        }
-        // Enough for the program, but the environment takes the rest of it.
-        let (stack, environment) = (1_000, 240);
-        let child = self.limited(stack, environment, &r.make)?;
-        self.writes("an environment in its way", SIGSEGV, "", child)?;
-
-        let name = "an environment of a quarter of the stack";
-        for environment in [320, 1_024] {
-            let child = self.limited(1_280, environment, &r.make)?;
-            let output = child.wait_with_output()?;
-            let said = String::from_utf8_lossy(&output.stderr);
-            let holds = output.status.code() == Some(126) && said.contains(TOO_LONG);
-            let got = format!("{} {said}", output.status);
-            self.case(name, holds, "not started", &got);
-            let nothing = output.stdout.is_empty();
-            self.case(name, nothing, "\"\"", &shown(&output.stdout));
-        }
-        Ok(())
-    }
-
     fn all(&mut self, sheet: &Path, folder: &Path) -> Tried<()> {
         self.by_hand(folder)?;
         let verdicts = std::fs::read_to_string(sheet.with_extension("expected"))?;
@@ -491,8 +413,7 @@ impl Test {
         self.lengths()?;
         self.outputs_that_wait()?;
         self.outputs_that_fail(&requests)?;
-        self.arguments(&requests)?;
-        self.stacks(&requests)
+        self.arguments(&requests)
     }
 }
 

@@ -81,21 +81,36 @@ fn case(path: &Path, entry: Entry) -> Result<Case, String> {
     })
 }
 
-/// The files of a folder, by name; every one is a list of cases.
+/// The files of requests, by name: those in the folder are those of which its README.md says what they pin.
 fn files(folder: &Path) -> Result<Vec<PathBuf>, String> {
     let at = |error: std::io::Error| format!("{}: {error}", folder.display());
-    let entries = std::fs::read_dir(folder).map_err(at)?;
+    let entries = std::fs::read_dir(folder.join("requests")).map_err(at)?;
     let paths = entries.map(|entry| entry.map(|entry| entry.path()));
     let mut paths = paths.collect::<Result<Vec<_>, _>>().map_err(at)?;
     paths.sort();
-    Ok(paths)
+    let readme = std::fs::read_to_string(folder.join("README.md")).map_err(at)?;
+    let rows = readme
+        .lines()
+        .filter_map(|line| line.strip_prefix("| requests/"));
+    let files = rows.filter_map(|row| row.split_once(" |"));
+    let mut told: Vec<PathBuf> = files
+        .map(|(file, _)| folder.join("requests").join(file))
+        .collect();
+    told.sort();
+    match told == paths {
+        true => Ok(paths),
+        false => Err(format!(
+            "{}: README.md tells of other files of requests",
+            folder.display()
+        )),
+    }
 }
 
 /// All cases over bytes.
 pub fn read(folder: &Path) -> Result<Vec<Case>, String> {
     let texts = texts(folder)?;
     let mut cases: Vec<Case> = Vec::new();
-    for path in files(&folder.join("requests"))? {
+    for path in files(folder)? {
         for entry in entries(&path, &mut texts.clone())? {
             cases.push(case(&path, entry)?);
         }

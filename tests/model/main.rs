@@ -2,10 +2,8 @@
 //!
 //! ```text
 //! rustc -O --edition 2021 main.rs -o model
-//! ./model selftest [EXAMPLES [CASES]]   the self-test; EXAMPLES is a folder of sheets (NAME.txt)
+//! ./model selftest [EXAMPLES [CASES]]   the self-test; EXAMPLES is a folder of sheets and verdicts
 //! ./model judge < REQUEST               prints what the program `judge` prints
-//! ./model gen SEED COUNT FOLDER         writes FOLDER/NNNNNN.req and what the model prints, .out
-//! ./model verdicts SHEET                the verdict of `make` for each participant
 //! ./model wrong [CASES]                 do the cases pin the rules? (only with --cfg wrong_rules)
 //! ```
 //!
@@ -27,18 +25,19 @@ mod tables;
 mod whys;
 
 use std::collections::HashMap;
+use std::error::Error;
 use std::io::{Read, Write};
-use std::path::Path;
+use std::path::{Path, PathBuf};
+use std::process::ExitCode;
 use std::time::{Duration, Instant};
 
 use cases::Case;
-use generate::Generator;
 use model::sheets::{read_sheet, write_sheet};
-use model::{Action, Condition, Few, LastPart, Reply, Row, Term};
+use model::{Action, Condition, Few, LastPart, Reply, Row, Sheet, Term};
 
-/// Counts the cases and keeps those that failed.
+/// Counts the checks and keeps those that failed.
 #[derive(Default)]
-struct Cases {
+struct Checks {
     run: usize,
     failed: Vec<String>,
     /// The longest time that a case took, and its name.
@@ -49,7 +48,7 @@ struct Cases {
 /// busy machine out of the verdict.
 const SLOW: Duration = Duration::from_millis(200);
 
-impl Cases {
+impl Checks {
     fn expect(&mut self, Case { name, request, due }: &Case) {
         self.run += 1;
         let start = Instant::now();
@@ -79,26 +78,53 @@ impl Cases {
             self.failed.push(name.to_string());
         }
     }
+
+    /// The same failure may occur many times over; each kind is shown once.
+    fn print(&self) {
+        let mut shown: HashMap<&str, usize> = HashMap::new();
+        for failure in &self.failed {
+            *shown.entry(failure).or_default() += 1;
+        }
+        for (failure, times) in &shown {
+            println!("FAILED ({times}): {failure}");
+        }
+        println!("{} tests, {} failed", self.run, self.failed.len());
+    }
 }
 
-/// The reader's own data: T as read.
-fn sheet_as_read(cases: &mut Cases, t: &str) {
+// ---------------------------------------------------------------------------------------------
+// What the reader makes of a text, which no answer shows whole
+// ---------------------------------------------------------------------------------------------
+
+/// T as read.
+fn sheet_as_read(checks: &mut Checks, t: &str) {
     let Ok(request) = model::read(format!("{t}check,1\nrow,0,1,3\n").as_bytes()) else {
-        cases.holds("T is read", false);
+        checks.holds("T is read", false);
         return;
     };
-    let sheet = &request.sheet;
-    cases.holds("line of check", request.line == 3);
-    cases.holds("participants", sheet.participants == 2);
-    cases.holds("deposits", sheet.deposits(0) == [100, 0]);
-    cases.holds(
-        "owners",
-        *sheet.definitions[0].owners == [0] && sheet.definitions[0].root == 0,
-    );
-    cases.holds(
-        "depths",
-        sheet.nodes[0].depth == 1 && sheet.nodes[1].depth == 2,
-    );
+    let Sheet {
+        participants,
+        nodes,
+        definitions,
+        ..
+    } = &request.sheet;
+    checks.holds("line of check", request.line == 3);
+    checks.holds("participants", *participants == 2);
+    checks.holds("deposits", request.sheet.deposits(0) == [100, 0]);
+    let first = &definitions[0];
+    checks.holds("owners", *first.owners == [0] && first.root == 0);
+    checks.holds("depths", nodes[0].depth == 1 && nodes[1].depth == 2);
+    branches_as_read(checks, &request.sheet);
+    let (node, branch, rank) = (0, 1, 3);
+    let due = LastPart::Check {
+        participant: 1,
+        rows: vec![Row { node, branch, rank }],
+    };
+    checks.holds("rows", request.part == due);
+}
+
+/// The two branches of T's first node.
+fn branches_as_read(checks: &mut Checks, sheet: &Sheet) {
     let branches = sheet.branches(0);
     let revealed = match branches[0].action {
         Action::Reveal {
@@ -109,23 +135,13 @@ fn sheet_as_read(cases: &mut Cases, t: &str) {
         _ => None,
     };
     let due = (Few::from(&[0][..]), Condition(&[Term::True]), 1);
-    cases.holds("branch 0", revealed == Some(due));
-    cases.holds(
-        "branch 1",
-        branches[1].opens == 500 && branches[1].action == Action::Withdraw { to: 1 },
-    );
-    cases.holds(
-        "rows",
-        request.part
-            == LastPart::Check {
-                participant: 1,
-                rows: vec![Row {
-                    node: 0,
-                    branch: 1,
-                    rank: 3,
-                }],
-            },
-    );
+    checks.holds("branch 0", revealed == Some(due));
+    let pays = branches[1].action == Action::Withdraw { to: 1 };
+    checks.holds("branch 1", branches[1].opens == 500 && pays);
+}
+
+/// A condition of several operators, one in the other.
+fn condition_as_read(checks: &mut Checks) {
     let nested =
         "bitml,1,1\ndef,1,1,0,c,1,0,0,r,1,0,and,not,t,lt,add,v,0,k,1,sub,k,2,v,0,c,0\nmake,0\n";
     let condition = model::read(nested.as_bytes()).ok().and_then(|request| {
@@ -135,15 +151,14 @@ fn sheet_as_read(cases: &mut Cases, t: &str) {
         }
     });
     let (v, k) = (Term::Secret, Term::Constant);
-    let (not_t, sums) = ([Term::Not, Term::True], [Term::Add, v(0), k(1)]);
     let due = [
         &[Term::And][..],
-        &not_t,
+        &[Term::Not, Term::True],
         &[Term::Less],
-        &sums,
+        &[Term::Add, v(0), k(1)],
         &[Term::Subtract, k(2), v(0)],
     ];
-    cases.holds("nested condition", condition == Some(due.concat()));
+    checks.holds("nested condition", condition == Some(due.concat()));
 }
 
 // ---------------------------------------------------------------------------------------------
@@ -172,44 +187,54 @@ fn verdicts(sheet: &[u8]) -> Vec<String> {
         .collect()
 }
 
-/// Prints the verdicts of every sheet in a folder, and compares them with NAME.expected if there
-/// is such a file.
-fn examples(cases: &mut Cases, folder: &Path) {
-    let Ok(entries) = std::fs::read_dir(folder) else {
-        println!("no examples in {}", folder.display());
+/// The files of a folder with this extension, in order; none if there is no such folder.
+fn files(folder: &Path, extension: &str) -> Vec<PathBuf> {
+    let entries = std::fs::read_dir(folder).into_iter().flatten();
+    let mut files: Vec<PathBuf> = entries
+        .filter_map(|entry| entry.ok().map(|entry| entry.path()))
+        .filter(|path| path.extension().is_some_and(|found| found == extension))
+        .collect();
+    files.sort();
+    files
+}
+
+/// The verdicts on the sheet NAME.txt are those of NAME.expected, and the same for all parties at once.
+fn example(checks: &mut Checks, path: &Path) {
+    let name = path.file_stem().unwrap_or_default().to_string_lossy();
+    let expected = std::fs::read_to_string(path.with_extension("expected"));
+    let (Ok(sheet), Ok(expected)) = (std::fs::read(path), expected) else {
+        checks.holds(&format!("example {name} and its verdicts are read"), false);
         return;
     };
-    let mut paths: Vec<_> = entries
-        .filter_map(|entry| entry.ok().map(|entry| entry.path()))
-        .filter(|path| path.extension().is_some_and(|extension| extension == "txt"))
-        .collect();
-    paths.sort();
+    let found = verdicts(&sheet);
+    let all = [&sheet[..], b"makeall\n"].concat();
+    let all = model::judge(&all).0.printed();
+    let all = all.lines().filter(|line| !line.starts_with("row,"));
+    checks.holds(&format!("all parties of example {name}"), all.eq(&found));
+    let agree = expected.lines().eq(&found);
+    checks.holds(&format!("example {name}"), agree);
+    let note = if agree {
+        "as expected"
+    } else {
+        "NOT AS EXPECTED"
+    };
+    println!("  {name}: {}  {note}", found.join("  "));
+}
+
+/// The examples of a folder: there are some, and no verdicts without their sheet.  What a tool NAME.c must
+/// print stands in NAME.expected too.
+fn examples(checks: &mut Checks, folder: &Path) {
     println!("examples in {}:", folder.display());
-    for path in paths {
-        let Ok(sheet) = std::fs::read(&path) else {
-            continue;
-        };
-        let found = verdicts(&sheet);
-        let all = [&sheet[..], b"makeall\n"].concat();
-        let all = model::judge(&all).0.printed();
-        let all = all.lines().filter(|line| !line.starts_with("row,"));
-        let name = path
-            .file_stem()
-            .unwrap_or_default()
-            .to_string_lossy()
-            .to_string();
-        cases.holds(&format!("all parties of example {name}"), all.eq(&found));
-        let mut note = "";
-        if let Ok(expected) = std::fs::read_to_string(path.with_extension("expected")) {
-            let agree = expected.lines().eq(found.iter().map(String::as_str));
-            cases.holds(&format!("example {name}"), agree);
-            note = if agree {
-                "  as expected"
-            } else {
-                "  NOT AS EXPECTED"
-            };
-        }
-        println!("  {name}: {}{note}", found.join("  "));
+    let sheets = files(folder, "txt");
+    let some = format!("there are examples in {}", folder.display());
+    checks.holds(&some, !sheets.is_empty());
+    for sheet in sheets {
+        example(checks, &sheet);
+    }
+    for expected in files(folder, "expected") {
+        let beside = |extension: &str| expected.with_extension(extension).exists();
+        let name = format!("{} stands by its sheet or tool", expected.display());
+        checks.holds(&name, beside("txt") || beside("c"));
     }
 }
 
@@ -218,52 +243,43 @@ fn examples(cases: &mut Cases, folder: &Path) {
 // ---------------------------------------------------------------------------------------------
 
 /// All cases of a folder.
-fn by_hand(cases: &mut Cases, folder: &Path) -> Result<(), String> {
+fn by_hand(checks: &mut Checks, folder: &Path) -> Result<(), String> {
     for case in cases::read(folder)? {
-        cases.expect(&case);
+        checks.expect(&case);
     }
     for case in tables::read(folder)? {
         let fault = case.fault(read_sheet, write_sheet).unwrap_or_default();
-        cases.holds(&format!("{}: {fault}", case.name), fault.is_empty());
+        checks.holds(&format!("{}: {fault}", case.name), fault.is_empty());
     }
     for case in buffers::read(folder)? {
         let fault = case.fault(model::call).unwrap_or_default();
-        cases.holds(&format!("{}: {fault}", case.name), fault.is_empty());
+        checks.holds(&format!("{}: {fault}", case.name), fault.is_empty());
     }
-    let (time, name) = cases.slowest.clone();
+    let (time, name) = checks.slowest.clone();
     println!(
         "cases: {} run, {} failed; slowest {time:?}, {name}",
-        cases.run,
-        cases.failed.len()
+        checks.run,
+        checks.failed.len()
     );
-    cases.holds(&format!("{name} is slow"), time < SLOW);
-    sheet_as_read(cases, &cases::texts(folder)?.text("T")?);
+    checks.holds(&format!("{name} is slow"), time < SLOW);
+    sheet_as_read(checks, &cases::texts(folder)?.text("T")?);
+    condition_as_read(checks);
     Ok(())
 }
 
 fn selftest(folder: &Path, by_hand_in: &Path) -> Result<bool, String> {
-    let mut cases = Cases::default();
+    let mut checks = Checks::default();
     for (spoilt, refused) in spoilt::notation() {
-        cases.holds(&format!("notation: {spoilt}"), refused);
+        checks.holds(&format!("notation: {spoilt}"), refused);
     }
-    by_hand(&mut cases, by_hand_in)?;
-    properties::properties(&mut cases, 2, 3_000);
-    properties::reasons(&mut cases, 4, 3_000);
-    properties::both_ways(&mut cases, 3, 2_000);
-    examples(&mut cases, folder);
-
-    occurring::test(&mut cases, 1, 20_000);
-
-    // The same failure may occur many times over; show each kind once.
-    let mut shown: HashMap<&str, usize> = HashMap::new();
-    for failure in &cases.failed {
-        *shown.entry(failure).or_default() += 1;
-    }
-    for (failure, times) in &shown {
-        println!("FAILED ({times}): {failure}");
-    }
-    println!("{} tests, {} failed", cases.run, cases.failed.len());
-    Ok(cases.failed.is_empty())
+    by_hand(&mut checks, by_hand_in)?;
+    properties::properties(&mut checks, 2, 3_000);
+    properties::reasons(&mut checks, 4, 3_000);
+    properties::both_ways(&mut checks, 3, 2_000);
+    examples(&mut checks, folder);
+    occurring::test(&mut checks, 1, 20_000);
+    checks.print();
+    Ok(checks.failed.is_empty())
 }
 
 #[cfg(wrong_rules)]
@@ -273,66 +289,45 @@ fn wrong(folder: &Path) -> Result<bool, String> {
     Ok(pins::test(requests, &tables, &buffers))
 }
 
-fn main() -> std::process::ExitCode {
-    let arguments: Vec<String> = std::env::args().skip(1).collect();
-    let words: Vec<&str> = arguments.iter().map(String::as_str).collect();
-    let other = std::io::Error::other;
-    let done: std::io::Result<bool> = match words.as_slice() {
+/// Answers the request on the standard input.  One byte past the longest tells that it is too long.
+fn judge() -> std::io::Result<()> {
+    let mut request = Vec::new();
+    let most = model::REQUEST_BYTES as u64 + 1;
+    std::io::stdin().take(most).read_to_end(&mut request)?;
+    let (reply, _) = model::judge(&request);
+    std::io::stdout().write_all(reply.printed().as_bytes())
+}
+
+/// Does what the words ask for; whether all is well.
+fn run(words: &[&str]) -> Result<bool, Box<dyn Error>> {
+    match words {
         ["selftest", rest @ ..] if rest.len() <= 2 => {
             let examples = rest.first().unwrap_or(&"examples");
             let folder = rest.get(1).unwrap_or(&cases::FOLDER);
-            selftest(Path::new(examples), Path::new(folder)).map_err(other)
+            Ok(selftest(Path::new(examples), Path::new(folder))?)
         }
         #[cfg(wrong_rules)]
         ["wrong", rest @ ..] if rest.len() <= 1 => {
             let folder = rest.first().unwrap_or(&cases::FOLDER);
-            wrong(Path::new(folder)).map_err(other)
+            Ok(wrong(Path::new(folder))?)
         }
         ["judge"] => {
-            let mut request = Vec::new();
-            std::io::stdin()
-                .take(65_537)
-                .read_to_end(&mut request)
-                .and_then(|_| {
-                    let (reply, _) = model::judge(&request);
-                    std::io::stdout().write_all(reply.printed().as_bytes())?;
-                    Ok(true)
-                })
+            judge()?;
+            Ok(true)
         }
-        ["gen", seed, count, folder] => {
-            let seed = seed.parse().unwrap_or(1);
-            let count = count.parse().unwrap_or(100);
-            write_requests(seed, count, Path::new(folder)).map(|_| true)
-        }
-        ["verdicts", sheet] => std::fs::read(sheet).map(|sheet| {
-            for verdict in verdicts(&sheet) {
-                println!("{verdict}");
-            }
-            true
-        }),
-        _ => {
-            eprintln!(
-                "model selftest [EXAMPLES [CASES]] | judge | gen SEED COUNT FOLDER | verdicts SHEET | wrong [CASES]"
-            );
-            Ok(false)
-        }
-    };
-    match done {
-        Ok(true) => std::process::ExitCode::SUCCESS,
-        Ok(false) => std::process::ExitCode::FAILURE,
-        Err(error) => {
-            eprintln!("{error}");
-            std::process::ExitCode::FAILURE
-        }
+        _ => Err("model selftest [EXAMPLES [CASES]] | judge | wrong [CASES]".into()),
     }
 }
 
-fn write_requests(seed: u64, count: usize, folder: &Path) -> std::io::Result<()> {
-    std::fs::create_dir_all(folder)?;
-    for (number, request) in Generator::new(seed).take(count).enumerate() {
-        let (reply, _) = model::judge(&request);
-        std::fs::write(folder.join(format!("{number:06}.req")), &request)?;
-        std::fs::write(folder.join(format!("{number:06}.out")), reply.printed())?;
+fn main() -> ExitCode {
+    let arguments: Vec<String> = std::env::args().skip(1).collect();
+    let words: Vec<&str> = arguments.iter().map(String::as_str).collect();
+    match run(&words) {
+        Ok(true) => ExitCode::SUCCESS,
+        Ok(false) => ExitCode::FAILURE,
+        Err(error) => {
+            eprintln!("{error}");
+            ExitCode::FAILURE
+        }
     }
-    Ok(())
 }

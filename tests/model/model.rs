@@ -418,6 +418,11 @@ fn kind_of(text: &[u8]) -> Option<Kind> {
 }
 
 fn condition_word(text: &[u8]) -> Option<Term> {
+    let text = rule!(text;
+        LongerConditions: wrong::longer(text, wrong::CONDITION_WORDS),
+        FirstLetterOfConditions: wrong::alike(text, wrong::CONDITION_WORDS),
+        ShorterConditions: wrong::shorter(text, wrong::CONDITION_WORDS),
+        CapitalConditions: wrong::capital(text, wrong::CONDITION_WORDS));
     Some(match text {
         b"t" => Term::True,
         b"and" => Term::And,
@@ -429,6 +434,11 @@ fn condition_word(text: &[u8]) -> Option<Term> {
 }
 
 fn expression_word(text: &[u8]) -> Option<Term> {
+    let text = rule!(text;
+        LongerExpressions: wrong::longer(text, wrong::EXPRESSION_WORDS),
+        FirstLetterOfExpressions: wrong::alike(text, wrong::EXPRESSION_WORDS),
+        ShorterExpressions: wrong::shorter(text, wrong::EXPRESSION_WORDS),
+        CapitalExpressions: wrong::capital(text, wrong::EXPRESSION_WORDS));
     Some(match text {
         b"k" => Term::Constant(0),
         b"v" => Term::Secret(0),
@@ -439,6 +449,11 @@ fn expression_word(text: &[u8]) -> Option<Term> {
 }
 
 fn asked_of(text: &[u8]) -> Option<Asked> {
+    let text = rule!(text;
+        LongerParts: wrong::longer(text, wrong::PART_WORDS),
+        FirstLetterOfParts: wrong::alike(text, wrong::PART_WORDS),
+        ShorterParts: wrong::shorter(text, wrong::PART_WORDS),
+        CapitalParts: wrong::capital(text, wrong::PART_WORDS));
     Some(match text {
         b"make" => Asked::Make,
         b"makeall" => Asked::MakeAll,
@@ -450,6 +465,11 @@ fn asked_of(text: &[u8]) -> Option<Asked> {
 }
 
 fn event_of(text: &[u8]) -> Option<Done> {
+    let text = rule!(text;
+        LongerEvents: wrong::longer(text, wrong::EVENT_WORDS),
+        FirstLetterOfEvents: wrong::alike(text, wrong::EVENT_WORDS),
+        ShorterEvents: wrong::shorter(text, wrong::EVENT_WORDS),
+        CapitalEvents: wrong::capital(text, wrong::EVENT_WORDS));
     Some(match text {
         b"wait" => Done::Wait,
         b"sign" => Done::Sign,
@@ -613,8 +633,8 @@ impl<'a> Reader<'a> {
     fn refusal(&self, number: Number) -> Refusal {
         Refusal {
             number,
-            line: rule!(self.line; LinesFrom0: self.line - 1),
-            field: rule!(self.field; FieldsFrom0: self.field - 1),
+            line: rule!(self.line; LinesFrom0: self.line - 1, LinesTo999: self.line % 1_000),
+            field: rule!(self.field; FieldsFrom0: self.field - 1, FieldsTo9999: self.field % 10_000),
         }
     }
 
@@ -718,7 +738,19 @@ impl<'a> Reader<'a> {
     /// Reads the one word that is due.
     #[inline(always)]
     fn only_word(&mut self, due: &'static [u8], faults: Faults) -> Result<(), Number> {
-        self.word(|text| (text == due).then_some(()), faults)
+        let is_due = |text: &[u8]| {
+            let (row, def) = (due == b"row", due == b"def");
+            rule!(text == due;
+                LongerRow: text == due || row && text.starts_with(due),
+                FirstLetterOfRow: text == due || row && wrong::alike(text, &[due]) == due,
+                ShorterRow: text == due || row && wrong::shorter(text, &[due]) == due,
+                CapitalRow: text == due || row && text.eq_ignore_ascii_case(due),
+                LongerDef: text == due || def && text.starts_with(due),
+                FirstLetterOfDef: text == due || def && wrong::alike(text, &[due]) == due,
+                ShorterDef: text == due || def && wrong::shorter(text, &[due]) == due,
+                CapitalDef: text == due || def && text.eq_ignore_ascii_case(due))
+        };
+        self.word(|text| is_due(text).then_some(()), faults)
     }
 
     /// Reads a number.  `faults` tells, for a number, the other faults of this field.
@@ -762,8 +794,13 @@ impl<'a> Reader<'a> {
         }
         let least = rule!(0; ValueFrom1: 1);
         let outside = |number| number > limit!(Value, VALUE) || number < least;
-        let number = self.number_in(field, |number| fault(4, outside(number)))?;
-        Ok(Value::Number(number))
+        let low = |number: u64| {
+            rule!(number;
+                ValuesIn16Bits: wrong::low(number, 16),
+                ValuesIn32Bits: wrong::low(number, 32))
+        };
+        let number = self.number_in(field, |number| fault(4, outside(low(number))))?;
+        Ok(Value::Number(low(number)))
     }
 
     // -- the sheet ----------------------------------------------------------------------------
@@ -772,10 +809,16 @@ impl<'a> Reader<'a> {
         self.begin_line();
         self.only_word(b"bitml", 0)?;
         let least = limit!(LeastParticipants, 1);
-        let participants = self.ranged(least, limit!(Participants, PARTICIPANTS))?;
+        let most = limit!(Participants, PARTICIPANTS);
+        let participants = rule!(self.ranged(least, most)?;
+            ParticipantsIn16Bits: self.ranged_in(16, least, most)?,
+            ParticipantsIn32Bits: self.ranged_in(32, least, most)?);
         self.sheet.participants = participants as usize;
         let least = limit!(LeastDefinitions, 1);
-        self.definitions_due = self.ranged(least, limit!(Definitions, DEFINITIONS))?;
+        let most = limit!(Definitions, DEFINITIONS);
+        self.definitions_due = rule!(self.ranged(least, most)?;
+            DefinitionsIn16Bits: self.ranged_in(16, least, most)?,
+            DefinitionsIn32Bits: self.ranged_in(32, least, most)?);
         self.end_line()?;
         for _ in 0..self.definitions_due {
             self.definition()?;
@@ -790,7 +833,10 @@ impl<'a> Reader<'a> {
         self.begin_line();
         self.only_word(b"def", 0)?;
         self.deposits()?;
-        let secrets = self.ranged(rule!(0; SecretsFrom1: 1), limit!(Secrets, SECRETS))?;
+        let (least, most) = (rule!(0; SecretsFrom1: 1), limit!(Secrets, SECRETS));
+        let secrets = rule!(self.ranged(least, most)?;
+            SecretsIn16Bits: self.ranged_in(16, least, most)?,
+            SecretsIn32Bits: self.ranged_in(32, least, most)?);
         let mut owners = Few::default();
         for _ in 0..secrets {
             owners.push(self.thing(limit!(Owner, self.sheet.participants))? as u8);
@@ -807,7 +853,7 @@ impl<'a> Reader<'a> {
         let mut together = rule!(0; DepositsOfAll: self.sheet.deposits.iter().sum());
         let count = self.sheet.participants;
         for place in 1..=count {
-            let told_here = rule!(true; SumAtTheLast: place == count);
+            let told_here = rule!(true; SumAtTheLast: place == count, SumOfFifteen: place < 16);
             let deposit = self.number(|deposit| {
                 let least = rule!(0; DepositFrom1: 1);
                 let outside = deposit > limit!(Deposit, SATOSHI) || deposit < least;
@@ -846,14 +892,24 @@ impl<'a> Reader<'a> {
         let all = limit!(Signers, number!(Range, participants));
         let no_room = self.branches >= limit!(Branches, BRANCHES);
         let six = rule!(6; SignersIsFour: 4);
-        let signers = self.number(|signers| fault(six, signers >= all) | fault(7, no_room))?;
+        let low = |signers: u64| {
+            rule!(signers;
+                SignersIn16Bits: wrong::low(signers, 16),
+                SignersIn32Bits: wrong::low(signers, 32))
+        };
+        let signers = self.number(|it| fault(six, low(it) >= all) | fault(7, no_room))?;
+        let signers = low(signers);
         let signers = rule!(signers; SignersBackwards: wrong::backwards(signers, participants));
         self.branches += 1;
         let opens = self.ranged(rule!(0; OpensFrom1: 1), limit!(OpeningTime, TIME))?;
         let action = match self.word(kind_of, 0)? {
-            Kind::Withdraw => Action::Withdraw {
-                to: self.thing(limit!(PaidTo, participants))?,
-            },
+            Kind::Withdraw => {
+                let count = limit!(PaidTo, participants);
+                let to = rule!(self.thing(count)?;
+                    PaidToIn16Bits: self.thing_in(16, count)?,
+                    PaidToIn32Bits: self.thing_in(32, count)?);
+                Action::Withdraw { to }
+            }
             Kind::Split => self.split(depth)?,
             Kind::Reveal => self.reveal(depth)?,
             Kind::Renew => {
@@ -880,12 +936,19 @@ impl<'a> Reader<'a> {
                 ZeroSumAtTheFirst: place == 1,
                 ZeroSumAllowed: false,
                 ZeroSumAfter: false);
+            let low = |weight: u64| {
+                rule!(weight;
+                    WeightsIn16Bits: wrong::low(weight, 16),
+                    WeightsIn32Bits: wrong::low(weight, 32))
+            };
             let weight = self.number(|weight| {
+                let weight = low(weight);
                 let sum = rule!(sum; EachWeightFrom1: 0) + u128::from(weight);
                 let least = rule!(0; WeightFrom1: 1);
                 let outside = weight > limit!(Weight, WEIGHT) || weight < least;
                 fault(4, outside) | fault(8, told_here && sum == 0)
             })?;
+            let weight = low(weight);
             sum += u128::from(weight);
             let node = self.contract(rule!(depth + 1; SplitsNotDeeper: depth))?;
             self.sheet.parts[first + place - 1] = Part { weight, node };
@@ -930,6 +993,9 @@ impl<'a> Reader<'a> {
         let mut secrets: Few<u8> = Few::default();
         for _ in 0..count {
             let secret = self.number(|secret| {
+                let secret = rule!(secret;
+                    ListedIn16Bits: wrong::low(secret, 16),
+                    ListedIn32Bits: wrong::low(secret, 32));
                 let same = |listed: &u8| u64::from(*listed) == secret;
                 let twice = rule!(secrets.iter().any(same);
                     TwiceAllowed: false,
@@ -984,8 +1050,13 @@ impl<'a> Reader<'a> {
         let passed = naming.fields > limit!(FieldsAtConstant, CONDITION_FIELDS);
         let least = rule!(0; ConstantFrom1: 1);
         let outside = |number| number > limit!(Constant, VALUE) || number < least;
-        let number = self.number(|number| fault(4, outside(number)) | fault(7, passed))?;
-        Ok(Term::Constant(number as u32))
+        let low = |number: u64| {
+            rule!(number;
+                ConstantsIn16Bits: wrong::low(number, 16),
+                ConstantsIn32Bits: wrong::low(number, 32))
+        };
+        let number = self.number(|number| fault(4, outside(low(number))) | fault(7, passed))?;
+        Ok(Term::Constant(low(number) as u32))
     }
 
     #[inline(always)]
@@ -993,6 +1064,11 @@ impl<'a> Reader<'a> {
         naming.fields += rule!(1; NumbersNotCounted: 0);
         let passed = naming.fields > limit!(FieldsAtSecret, CONDITION_FIELDS);
         let secret = self.number(|secret| {
+            let secret = rule!(secret;
+                NamedIn3Bits: wrong::low(secret, 3),
+                NamedIn6Bits: wrong::low(secret, 6),
+                NamedIn16Bits: wrong::low(secret, 16),
+                NamedIn32Bits: wrong::low(secret, 32));
             let listed = secret < 64 && naming.listed_sum >> secret & 1 == 1;
             let known = rule!(listed; NamedByPlace: secret < naming.listed.len() as u64);
             fault(6, !known) | fault(7, passed)
@@ -1117,7 +1193,10 @@ impl<'a> Reader<'a> {
         let node = self.thing(limit!(RowNode, self.sheet.nodes.len()))?;
         let branches = self.sheet.branches(node).len();
         let branch = self.thing(rule!(limit!(RowBranch, branches); RowBranchOfAny: 16))?;
-        let rank = self.ranged(limit!(LeastRank, 1), limit!(Rank, RANK))?;
+        let (least, most) = (limit!(LeastRank, 1), limit!(Rank, RANK));
+        let rank = rule!(self.ranged(least, most)?;
+            RanksIn16Bits: self.ranged_in(16, least, most)?,
+            RanksIn32Bits: self.ranged_in(32, least, most)?);
         self.end_line()?;
         Ok(Row { node, branch, rank })
     }
@@ -1148,6 +1227,23 @@ impl<'a> Reader<'a> {
                 values: self.renewed_values(values)?,
             },
         };
+        let event = rule!(event;
+            ContractsWrap: wrong::wrap_contract(event, 256),
+            BranchesWrap: wrong::wrap_branch(event, 16),
+            SetsWrap: wrong::wrap_tell(event, 32, u32::MAX),
+            SecretsWrap: wrong::wrap_tell(event, u32::MAX, 8),
+            ContractsIn15Bits: wrong::wrap_contract(event, 32_768),
+            BranchesIn15Bits: wrong::wrap_branch(event, 32_768),
+            SetsIn15Bits: wrong::wrap_tell(event, 32_768, u32::MAX),
+            SecretsIn15Bits: wrong::wrap_tell(event, u32::MAX, 32_768));
+        let empty = || self.next == Next::Field && self.rest().starts_with(b"\n");
+        if rule!(false;
+            EmptyAfterSign: empty() && matches!(event, Event::Sign { .. }),
+            EmptyAfterTell: empty() && matches!(event, Event::Tell { .. }),
+            EmptyAfterFire: empty() && matches!(event, Event::Fire { .. }))
+        {
+            return self.take(Field::of_word).map(|_| event);
+        }
         self.end_line()?;
         Ok(event)
     }
@@ -1257,7 +1353,9 @@ impl Sheet {
     fn kind_is_own(&self, node: usize, branch: &Branch, participant: usize) -> bool {
         match &branch.action {
             Action::Withdraw { to } => rule!(true; OthersNotPaid: *to == participant),
-            Action::Split { .. } => rule!(true; SplitsNotOwn: false),
+            Action::Split { .. } => rule!(true;
+                SplitsNotOwn: false,
+                SplitsMustBeOpen: branch.opens == 0),
             Action::Reveal {
                 secrets, condition, ..
             } => {
@@ -1266,6 +1364,7 @@ impl Sheet {
                 // most, so it is judged once however many participants the branch is looked at for.
                 self.secrets_are_own(node, secrets, condition, participant)
                     && self.condition_is_own(node, condition)
+                    && rule!(true; RevealsMustBeOpen: branch.opens == 0)
             }
             Action::Renew { .. } => rule!(false;
                 RenewalsOwn: true,
@@ -1291,7 +1390,9 @@ impl Sheet {
             OneOwnedSuffices: secrets.iter().any(theirs),
             OneOwnedSufficesAnyway: secrets.iter().filter(|it| theirs(it)).count()
                 >= if other { 1 } else { secrets.len() },
-            FirstOwnedSuffices: theirs(&secrets[0]))
+            FirstOwnedSuffices: theirs(&secrets[0]),
+            First2OwnedSuffice: secrets.iter().take(2).all(theirs),
+            First7OwnedSuffice: secrets.iter().take(7).all(theirs))
     }
 
     /// Does the condition count as `t`?
@@ -1325,7 +1426,10 @@ fn reached_by(sheet: &Sheet, follows: impl Fn(usize, usize) -> bool) -> Vec<bool
             reached[node] = true;
             for (number, branch) in sheet.branches(node).iter().enumerate() {
                 if follows(node, number) {
-                    to_visit.extend(sheet.replaced_by(branch));
+                    let next = sheet.replaced_by(branch);
+                    rule!(to_visit.extend(next);
+                        First2PartsFollowed: to_visit.extend(next.take(2)),
+                        First7PartsFollowed: to_visit.extend(next.take(7)));
                 }
             }
         }
@@ -1351,7 +1455,8 @@ pub fn exits(sheet: &Sheet, participant: usize) -> Vec<Option<Row>> {
 fn best_exit(sheet: &Sheet, participant: usize, node: usize, exits: &[Option<Row>]) -> Option<Row> {
     let mut best: Option<Row> = None;
     for (number, branch) in sheet.branches(node).iter().enumerate() {
-        if !sheet.is_own(node, number, participant) {
+        let looked_at = rule!(true; ExitsByFirst8: number < 8, ExitsByFirst15: number < 15);
+        if !looked_at || !sheet.is_own(node, number, participant) {
             continue;
         }
         let rank_of = |part: usize| {
@@ -1361,11 +1466,17 @@ fn best_exit(sheet: &Sheet, participant: usize, node: usize, exits: &[Option<Row
         // None if some contract of the branch has no exit.
         let mut ranks = sheet.contracts(branch).map(rank_of);
         let sum: Option<u64> = rule!(ranks.sum();
+            ExitsOfFirst2: ranks.take(2).sum(),
+            ExitsOfFirst7: ranks.take(7).sum(),
             MadeByLargest: ranks.try_fold(0, |largest, rank| Some(rank?.max(largest))));
         let Some(sum) = sum else {
             continue;
         };
         let rank = rule!(1; MadeWithout1: 0) + sum;
+        let rank = rule!(rank;
+            MadeStopsAt32: rank.min(32),
+            MadeStopsAt255: rank.min(255),
+            MadeInAByte: rank & 255);
         // Only a lower rank takes the place of an earlier branch.
         let better = |row: Row| {
             rule!(rank < row.rank;
@@ -1404,11 +1515,17 @@ fn make_where(sheet: &Sheet, participant: usize, reached: &[bool]) -> Result<Vec
     let otherwise = rule!(None;
         EveryNode: Some(vec![true; sheet.nodes.len()]),
         RootAlone: Some(reached_by(sheet, |_, _| false)),
+        First8BranchesFollowed: Some(reached_by(sheet, |_, number| number < 8)),
+        First15BranchesFollowed: Some(reached_by(sheet, |_, number| number < 15)),
         ExitPathOnly: Some(reached_by(sheet, exit)),
         OwnBranchesOnly: Some(reached_by(sheet, own)),
         OpenBranchesOnly: Some(reached_by(sheet, |node, number| branch(node, number).opens == 0)),
         UnsignedBranchesOnly: Some(reached_by(sheet, |node, number| branch(node, number).signers == 0)),
         RenewalsNotFollowed: Some(reached_by(sheet, |node, number| !branch(node, number).is_renewal())),
+        LaterRevealsNotFollowed: Some(reached_by(sheet, wrong::but(sheet, wrong::is_later_reveal))),
+        LaterRenewalsNotFollowed: Some(reached_by(sheet, wrong::but(sheet, wrong::is_later_renewal))),
+        SignedRevealsNotFollowed: Some(reached_by(sheet, wrong::but(sheet, wrong::is_signed_reveal))),
+        SignedRenewalsNotFollowed: Some(reached_by(sheet, wrong::but(sheet, wrong::is_signed_renewal))),
         FalseNotFollowed: Some(reached_by(sheet, |node, number| !is_false(node, number))));
     let reached = otherwise.as_deref().unwrap_or(reached);
     let mut nodes = (0..sheet.nodes.len()).filter(|node| reached[*node]);
@@ -1547,15 +1664,25 @@ fn row_fault(sheet: &Sheet, participant: usize, row: &Row, rank_of: &[Option<u64
             RowsOfTheBranchOnly: *number == row.branch,
             RowsOfOwnOnly: own(number),
             RowsOfFalseNotAsked: !wrong::is_false(sheet, &branches[*number]),
-            RowsOfRenewalsNotAsked: !branches[*number].is_renewal())
+            RowsOfRenewalsNotAsked: !branches[*number].is_renewal(),
+            RowsOfEarlierRenewalsNotAsked: *number >= row.branch || !branches[*number].is_renewal(),
+            RowsOfFirst8Branches: *number < 8,
+            RowsOfFirst15Branches: *number < 15,
+            RowsOfOpenOnly: branches[*number].opens == 0,
+            RowsOfUnsignedOnly: branches[*number].signers == 0)
     };
     let asking = (0..branches.len()).filter(asks);
-    let mut needed = asking.flat_map(|number| sheet.replaced_by(&branches[number]));
-    let missing = needed.any(|node| rank_of[node].is_none());
+    let contracts = |number: usize| sheet.replaced_by(&branches[number]);
+    let lacks = |node: usize| rank_of[node].is_none();
+    let missing = rule!(asking.flat_map(contracts).any(lacks);
+        RowsOfFirst2: asking.flat_map(|number| contracts(number).take(2)).any(lacks),
+        RowsOfFirst7: asking.flat_map(|number| contracts(number).take(7)).any(lacks));
     let parts = sheet.contracts(&branches[row.branch]);
     let ranks = parts.clone().filter_map(|node| rank_of[node]);
     let sum: u64 = rule!(ranks.sum();
         RankByLargest: ranks.max().unwrap_or(0),
+        RankOfFirst2: ranks.take(2).sum(),
+        RankOfFirst7: ranks.take(7).sum(),
         RankByPublished: wrong::published(sheet, participant, parts));
     let least = rule!(1; RankWithout1: 0) + sum;
     let too_low = rule!(row.rank < least;
@@ -1635,6 +1762,8 @@ fn step_to(sheet: &Sheet, (node, number): Step) -> impl Iterator<Item = usize> +
     let nodes = sheet.replaced_by(&sheet.branches(node)[number]);
     let (skipped, taken) = rule!((0, usize::MAX);
         StepsToTheFirstPart: (0, 1),
+        StepsToFirst2Parts: (0, 2),
+        StepsToFirst7Parts: (0, 7),
         StepsToTheLastPart: (nodes.clone().count().saturating_sub(1), 1));
     nodes.skip(skipped).take(taken)
 }
@@ -1691,9 +1820,14 @@ fn told_run(sheet: &Sheet, participant: usize, frozen: usize) -> Vec<Step> {
     let own = |node: usize, number: usize| sheet.is_own(node, number, participant);
     let mut run = rule!(run_to(sheet, frozen, |_, _| true);
         OwnStepsOnly: run_to(sheet, frozen, own),
+        StepsByFirst8: run_to(sheet, frozen, |_, number| number < 8),
+        StepsByFirst15: run_to(sheet, frozen, |_, number| number < 15),
         OpenStepsOnly: run_to(sheet, frozen, |node, number| branch(node, number).opens == 0),
         UnsignedStepsOnly: run_to(sheet, frozen, |node, number| branch(node, number).signers == 0),
         NoStepsByRenewals: run_to(sheet, frozen, |node, number| !branch(node, number).is_renewal()),
+        NoStepsByLaterReveals: run_to(sheet, frozen, wrong::but(sheet, wrong::is_later_reveal)),
+        NoStepsByLaterRenewals: run_to(sheet, frozen, wrong::but(sheet, wrong::is_later_renewal)),
+        NoStepsBySignedRenewals: run_to(sheet, frozen, wrong::but(sheet, wrong::is_signed_renewal)),
         NoFalseSteps: run_to(sheet, frozen, |node, number| !is_false(node, number)),
         AnyRun: wrong::any_run(sheet, frozen),
         RunFromTheEnd: wrong::run_from_the_end(sheet, frozen),
@@ -1777,6 +1911,8 @@ fn secret_is_anothers(
         AllSecretsAnothers: anothers.count() == secrets.len(),
         FirstSecretAnothers: is_anothers(secrets[0]),
         LastSecretAnothers: is_anothers(secrets[secrets.len() - 1]),
+        First2SecretsOnly: secrets.iter().take(2).any(|secret| is_anothers(*secret)),
+        First7SecretsOnly: secrets.iter().take(7).any(|secret| is_anothers(*secret)),
         SecretsAreNoCause: false)
 }
 
@@ -1797,7 +1933,9 @@ fn lacks_an_exit(sheet: &Sheet, branch: &Branch, exits: &[Option<Row>]) -> bool 
     rule!(without.any(|without| without);
         AllLackExits: contracts.count() > 0 && without.all(|without| without),
         FirstLacksAnExit: without.next() == Some(true),
-        LastLacksAnExit: without.last() == Some(true))
+        LastLacksAnExit: without.last() == Some(true),
+        First2LackAnExit: without.take(2).any(|without| without),
+        First7LackAnExit: without.take(7).any(|without| without))
 }
 
 /// A line for each branch of the frozen node: its number and its cause.
@@ -1916,7 +2054,10 @@ fn sum(left: i64, right: i64) -> i64 {
         AddIsFirst: left,
         AddIsSecond: right,
         AddIn32Bits: i64::from((left + right) as i32),
-        AddStops: (left + right).min(VALUE as i64))
+        AddStops: (left + right).min(VALUE as i64),
+        AddStopsAt31Bits: (left + right).clamp(i32::MIN.into(), i32::MAX.into()),
+        AddStopsAt32Bits: (left + right).min(u32::MAX.into()),
+        AddStopsBelow: (left + right).max(i32::MIN.into()))
 }
 
 /// `sub`.
@@ -1928,7 +2069,12 @@ fn difference(left: i64, right: i64) -> i64 {
         SubIsSecond: right,
         SubAbsolute: (left - right).abs(),
         SubClipped: (left - right).max(0),
-        SubTurned: right - left)
+        SubTurned: right - left,
+        SubIn32Bits: i64::from((left - right) as i32),
+        SubStops: (left - right).max(-(VALUE as i64)),
+        SubStopsAt31Bits: (left - right).max(i32::MIN.into()),
+        SubStopsAt32Bits: (left - right).max(-i64::from(u32::MAX)),
+        SubStopsAbove: (left - right).min(i32::MAX.into()))
 }
 
 /// `and`.
@@ -1944,7 +2090,9 @@ fn equal(left: i64, right: i64) -> bool {
         EqIsUnequal: left != right,
         EqIsAtMost: left <= right,
         EqIsAtLeast: left >= right,
-        EqOfSizes: left.abs() == right.abs())
+        EqOfSizes: left.abs() == right.abs(),
+        EqIn32Bits: left as i32 == right as i32,
+        EqInFloats: left as f32 == right as f32)
 }
 
 /// `lt`.
@@ -1955,7 +2103,10 @@ fn less(left: i64, right: i64) -> bool {
         LtIsAtMost: left <= right,
         LtIsUnequal: left != right,
         LtUnsigned: (left as u64) < right as u64,
-        LtOfSizes: left.abs() < right.abs())
+        LtOfSizes: left.abs() < right.abs(),
+        LtIn32Bits: (left as i32) < right as i32,
+        LtInUnsigned32Bits: left < right && (left < 0 || (left as u32) < right as u32),
+        LtInFloats: (left as f32) < right as f32)
 }
 
 /// What a term makes of the two values that it asks for; those of conditions are 0 and 1.  None if it asks
@@ -2067,7 +2218,9 @@ impl Ledger {
     pub fn stipulate(sheet: &Sheet, values: &[Value]) -> Ledger {
         let first = rule!(0; StipulatedAsTheLast: sheet.definitions.len() - 1);
         let deposits = sheet.deposits(first);
-        let deposits: u64 = rule!(deposits.iter().sum(); FirstDepositOnly: deposits[0]);
+        let deposits: u64 = rule!(deposits.iter().sum();
+            FirstDepositOnly: deposits[0],
+            FifteenDeposits: deposits.iter().take(15).sum());
         let mut ledger = Ledger {
             time: 0,
             contracts: Vec::with_capacity(CONTRACTS_MADE),
@@ -2208,6 +2361,8 @@ impl Ledger {
         };
         let early = rule!(fired.opens > self.time;
             FiredAfterOpening: fired.opens > 0 && fired.opens >= self.time,
+            FiredIn16Bits: fired.opens as u16 > self.time as u16,
+            FiredInSigned32Bits: fired.opens as i32 > self.time as i32,
             FiredEarly: false);
         let (signers, signed) = (fired.signers, self.contracts[contract].signed[branch]);
         let unsigned = rule!(signers & !signed != 0;
@@ -2244,6 +2399,8 @@ impl Ledger {
         };
         let early = rule!(renewed.opens > self.time;
             RenewedAfterOpening: renewed.opens > 0 && renewed.opens >= self.time,
+            RenewedIn16Bits: renewed.opens as u16 > self.time as u16,
+            RenewedInSigned32Bits: renewed.opens as i32 > self.time as i32,
             RenewedEarly: false);
         let signers = rule!(renewed.signers; AllRenew: (1 << sheet.participants) - 1);
         let signed = self.contracts[contract].signed[branch];
@@ -2269,7 +2426,10 @@ impl Ledger {
         let made = made + rule!(1; RenewalsMakeNone: 0);
         let sets = rule!(self.sets.len(); EmptySetsNotCounted: wrong::filled(&self.sets));
         let taken = rule!(self.deposits_taken; HeldCounted: wrong::held(&self.contracts));
-        let taken = taken + deposits.iter().sum::<u64>();
+        let deposits: u64 = rule!(deposits.iter().sum();
+            FirstDepositLimited: deposits[0],
+            FifteenLimited: deposits.iter().take(15).sum());
+        let taken = taken + deposits;
         made <= limit!(ContractsMade, CONTRACTS_MADE)
             && sets < limit!(SetsMade, SETS_MADE)
             && taken <= limit!(DepositsTaken, SATOSHI)
@@ -2287,11 +2447,13 @@ impl Ledger {
         let condition = sheet.condition(*condition);
         let set = rule!(self.contracts[contract].set;
             FirstSetServes: 0,
-            NewestSetServes: self.sets.len() - 1);
+            NewestSetServes: self.sets.len() - 1,
+            FirstSetsServe: self.contracts[contract].set % 16);
         let set = &self.sets[set];
         let told = |secret: &u8| set.is_told(usize::from(*secret));
         let all_told = rule!(secrets.iter().all(told);
             UntoldServe: true,
+            ZerosServe: secrets.iter().all(|it| told(it) || wrong::is_zero(set, *it)),
             OneToldSuffices: secrets.iter().any(told),
             FirstToldSuffices: told(&secrets[0]),
             NamedToldSuffice: secrets.iter().all(|it| told(it) || !wrong::names(condition, *it)),
@@ -2316,14 +2478,26 @@ impl Ledger {
     /// values of a renewal are among these.
     #[inline]
     pub fn step(&mut self, sheet: &Sheet, event: Event, values: &[Value]) -> Result<(), u32> {
-        if let Some(number) = self.refusal(sheet, event, values) {
+        let refusal = rule!(self.refusal(sheet, event, values);
+            DeadAfter15: wrong::dead_after(15, self, sheet, event, values),
+            DeadAfter16: wrong::dead_after(16, self, sheet, event, values),
+            DeadAfter17: wrong::dead_after(17, self, sheet, event, values),
+            DeadAfter18: wrong::dead_after(18, self, sheet, event, values),
+            DeadAfter19: wrong::dead_after(19, self, sheet, event, values));
+        if let Some(number) = refusal {
             rule!(();
                 RefusedFiringsKill: wrong::kill(&mut self.contracts, event),
-                RefusedWaitsMove: if let Event::Wait { .. } = event { self.time = TIME });
+                RefusedWaitsMove: if let Event::Wait { .. } = event { self.time = TIME },
+                RefusedRenewalsTake: wrong::take_all_the_same(self, sheet, event),
+                RefusedRenewalsMakeSets: wrong::make_a_set(self, event, number),
+                RefusedRenewalsMakeContracts: wrong::make_a_contract(self, event, number));
             return Err(number);
         }
         match event {
-            Event::Wait { delay } => self.time = rule!(self.time; WaitsFromZero: 0) + delay,
+            Event::Wait { delay } => {
+                self.time = rule!(self.time; WaitsFromZero: 0) + delay;
+                rule!((); WaitsUnsign: wrong::unsign(&mut self.contracts));
+            }
             Event::Sign {
                 participant,
                 contract,
@@ -2350,7 +2524,9 @@ impl Ledger {
     fn sign(&mut self, participant: usize, contract: usize, branch: usize) {
         let signed = rule!(number!(Signs, participant) as u32; OneSignsForAll: u32::MAX);
         self.contracts[contract].signed[branch] |= signed;
-        rule!((); SignsEveryBranch: self.contracts[contract].signed.fill(signed));
+        rule!(();
+            SignsEveryBranch: self.contracts[contract].signed.fill(signed),
+            SignsForTheNode: wrong::sign_for_the_node(&mut self.contracts, contract));
     }
 
     fn fire(&mut self, sheet: &Sheet, contract: usize, branch: usize) {
@@ -2365,11 +2541,17 @@ impl Ledger {
                 let to = rule!(to; PaidToTheFirst: 0);
                 self.paid[to] = rule!(self.paid[to]; PaidAnew: 0) + balance;
             }
-            Action::Reveal { next, .. } => self.add_contract(next, balance, set),
+            Action::Reveal { next, .. } => {
+                let set = rule!(set; RevealedOfTheFirstSet: 0);
+                self.add_contract(next, balance, set)
+            }
             Action::Split { parts } => self.split(sheet.parts(parts), balance, set),
             Action::Renew { .. } => unreachable!("a renewal was fired"),
         }
-        rule!((); SignaturesKept: wrong::keep_signatures(&mut self.contracts, contract, before));
+        rule!(();
+            SignaturesKept: wrong::keep_signatures(&mut self.contracts, contract, before),
+            FiringsUnsign: wrong::unsign(&mut self.contracts),
+            FiringsEndTheNode: wrong::end_the_node(&mut self.contracts, node));
     }
 
     /// Parts a balance by weight.
@@ -2396,19 +2578,26 @@ impl Ledger {
             unreachable!("a branch of another kind was renewed");
         };
         let old = sheet.nodes[node].definition;
-        let to = rule!(definition; RenewedAsTheFirst: 0, RenewedAsTheOld: old);
+        let to = rule!(definition;
+            RenewedAsTheFirst: 0,
+            RenewedAsTheOld: old,
+            RenewedBelow16: definition % 16);
         let from = rule!(definition; DepositsOfTheFirst: 0, DepositsOfTheOld: old);
-        let deposits: u64 = sheet.deposits(from).iter().sum();
+        let deposits = sheet.deposits(from).iter();
+        let deposits: u64 = rule!(deposits.sum(); FifteenRenewed: deposits.take(15).sum());
         let before = self.contracts.len();
         self.contracts[contract].alive = rule!(false; RenewedLivesOn: true);
-        self.deposits_taken += rule!(deposits; RenewalsNotCounted: 0);
+        self.deposits_taken += rule!(deposits;
+            RenewalsNotCounted: 0,
+            FirstDepositCounted: sheet.deposits(from)[0]);
         self.sets.push(Commitments::of(values));
         rule!((); RenewedStaysTold: wrong::stay_told(&mut self.sets, set));
         let set = rule!(self.sets.len() - 1; OldSetKept: set);
         let balance = rule!(balance + deposits; NoDepositsAdded: balance, BalanceLeftOut: deposits);
         self.add_contract(sheet.definitions[to].root, balance, set);
         rule!(();
-            RenewedSignaturesKept: wrong::keep_signatures(&mut self.contracts, contract, before));
+            RenewedSignaturesKept: wrong::keep_signatures(&mut self.contracts, contract, before),
+            RenewalsUnsign: wrong::unsign(&mut self.contracts));
     }
 }
 
@@ -2417,7 +2606,9 @@ fn shares(parts: &[Part], balance: u64) -> [u64; PARTS as usize] {
     let weights: u64 = parts.iter().map(|part| part.weight).sum();
     let weights = rule!(weights;
         WeightsPerMille: 1_000,
-        WeightsAlike: parts.len() as u64);
+        WeightsAlike: parts.len() as u64,
+        WeightsOfFirst7: parts.iter().take(7).map(|part| part.weight).sum(),
+        WeightsStop: weights.min(4_095));
     let mut shares = [0; PARTS as usize];
     for (share, part) in shares.iter_mut().zip(parts) {
         let weight = rule!(part.weight; WeightsAlike: 1);
@@ -2425,6 +2616,9 @@ fn shares(parts: &[Part], balance: u64) -> [u64; PARTS as usize] {
         let product = balance * weight;
         *share = rule!(product / weights;
             SharesRoundedUp: product.div_ceil(weights),
+            SharesInFloats: (balance as f64 * weight as f64 / weights as f64) as u64,
+            SharesByQuotients: (balance as f64 * (weight as f64 / weights as f64)) as u64,
+            SharesInShortFloats: (balance as f32 * weight as f32 / weights as f32) as u64,
             SharesRounded: (product + weights / 2) / weights,
             SharesDividedFirst: balance / weights * weight);
     }

@@ -4,7 +4,7 @@
 //! what is due (`>`) from each call, and what is held (`=`).  Whatever is not understood is an error: no
 //! entry is left out.
 
-use std::collections::HashMap;
+use std::collections::BTreeMap;
 use std::path::Path;
 
 /// One case as it is written, with the line on which it begins.
@@ -28,10 +28,10 @@ struct Named {
 
 /// What has a name: `W` a text, `table W` a table.
 #[derive(Clone, Default)]
-pub struct Texts(HashMap<String, Named>);
+pub struct Texts(BTreeMap<String, Named>);
 
 /// What names stand for inside a text: its parameters, and the counters of the repetitions around.
-pub type Scope = HashMap<String, Vec<u8>>;
+pub type Scope = BTreeMap<String, Vec<u8>>;
 
 // ---------------------------------------------------------------------------------------------
 // A line
@@ -41,12 +41,12 @@ pub type Scope = HashMap<String, Vec<u8>>;
 fn number(expression: &str, scope: &Scope) -> Result<i64, String> {
     let wrong = || format!("no number: {expression:?}");
     let (sum, sign, last) = match expression.rfind(['+', '-']) {
-        Some(at) => (
+        Some(at) if at > 0 => (
             &expression[..at],
             &expression[at..=at],
             &expression[at + 1..],
         ),
-        None => ("", "+", expression),
+        _ => ("", "+", expression),
     };
     let mut product: i64 = 1;
     for factor in last.split('*') {
@@ -55,6 +55,9 @@ fn number(expression: &str, scope: &Scope) -> Result<i64, String> {
             None => factor,
         };
         let factor: u32 = digits.parse().map_err(|_| wrong())?;
+        if factor.to_string() != digits {
+            return Err(wrong());
+        }
         product = product.checked_mul(factor.into()).ok_or_else(wrong)?;
     }
     let before = if sum.is_empty() {
@@ -99,7 +102,8 @@ impl Texts {
             .split_once("..")
             .ok_or(format!("no range: {range:?}"))?;
         let (first, last) = (number(first, scope)?, number(last, scope)?);
-        if scope.contains_key(counter) || first > last {
+        let taken = scope.contains_key(counter) || self.0.contains_key(counter);
+        if taken || !is_name(counter) || first < 0 || first > last {
             return Err(format!("no repetition: {head:?}"));
         }
         let mut inner = scope.clone();
@@ -158,6 +162,9 @@ impl Texts {
                 [b'\\', b'n', ..] => (vec![b'\n'], 2),
                 [b'\\', b'x', _, _, ..] => {
                     let digits = special.get(2..4).unwrap_or_default();
+                    if !digits.bytes().all(|digit| digit.is_ascii_hexdigit()) {
+                        return Err(format!("not understood: {special:?}"));
+                    }
                     let byte = u8::from_str_radix(digits, 16).map_err(|error| error.to_string())?;
                     (vec![byte], 4)
                 }
@@ -181,6 +188,14 @@ impl Texts {
         }
         Ok(text)
     }
+}
+
+/// Letters, digits and `_`, of which a letter comes first.
+fn is_name(word: &str) -> bool {
+    word.starts_with(|first: char| first.is_ascii_alphabetic())
+        && word
+            .bytes()
+            .all(|byte| byte.is_ascii_alphanumeric() || byte == b'_')
 }
 
 /// Letters that stand for themselves.
@@ -300,44 +315,69 @@ impl<'t> Reader<'t> {
         Ok(())
     }
 
-    fn name(&mut self, kind: &str, name: &str) -> Result<(), String> {
+    /// What is due stands before what is held.
+    fn due(&mut self, line: &str) -> Result<(), String> {
+        let text = self.texts.line(line, &Scope::new())?;
+        match self.begun()? {
+            entry if entry.held.is_empty() => entry.due.extend(text),
+            _ => return Err("what is due behind what is held".to_string()),
+        }
+        Ok(())
+    }
+
+    fn held(&mut self, line: &str) -> Result<(), String> {
+        let text = self.texts.line(line, &Scope::new())?;
+        match self.begun()? {
+            entry if !entry.due.is_empty() => entry.held.extend(text),
+            _ => return Err("what is held before what is due".to_string()),
+        }
+        Ok(())
+    }
+
+    /// What the next lines are called, and its parameters: no name stands for two things.
+    fn name(&mut self, kind: &str, names: &str) -> Result<(), String> {
         self.close()?;
         self.pins.clear();
-        let mut words = name.split(' ').map(str::to_string);
-        let name = words.next().unwrap_or_default();
+        let all: Vec<String> = names.split(' ').map(str::to_string).collect();
+        let parameters = all[1..].to_vec();
+        let twice = (1..all.len()).any(|place| all[..place].contains(&all[place]));
+        let known = |name: &String| self.texts.0.contains_key(name);
+        if twice || parameters.iter().any(known) || !all.iter().all(|name| is_name(name)) {
+            return Err(format!("no names: {names:?}"));
+        }
         let named = Named {
-            parameters: words.collect(),
+            parameters,
             lines: Vec::new(),
         };
-        self.naming = Some((format!("{kind}{name}"), named));
+        self.naming = Some((format!("{kind}{}", all[0]), named));
         Ok(())
     }
 
     fn line(&mut self, number: usize, line: &str) -> Result<(), String> {
-        let scope = Scope::new();
         if line.is_empty() {
             return self.blank();
         }
+        let (first, rest) = line.split_once(' ').unwrap_or((line, ""));
+        if first.len() > 1 && first.starts_with(['#', '>', '@', '=']) {
+            return Err(format!("a blank is due behind {:?}", &first[..1]));
+        }
+        let sign = matches!(first, "#" | ">" | "@" | "=" | "text" | "table");
         if let Some((_, named)) = &mut self.naming {
             named.lines.push(line.to_string());
-            return Ok(());
+            return match sign {
+                true => Err("a blank line ends what is named".to_string()),
+                false => Ok(()),
+            };
         }
-        let (first, rest) = line.split_once(' ').unwrap_or((line, ""));
         match first {
             "#" => self.pinned(rest)?,
             "text" => self.name("", rest)?,
             "table" => self.name("table ", rest)?,
             "@" => self.call(number, rest)?,
-            ">" => {
-                let text = self.texts.line(rest, &scope)?;
-                self.begun()?.due.extend(text);
-            }
-            "=" => {
-                let text = self.texts.line(rest, &scope)?;
-                self.begun()?.held.extend(text);
-            }
+            ">" => self.due(rest)?,
+            "=" => self.held(rest)?,
             _ => {
-                let text = self.texts.line(line, &scope)?;
+                let text = self.texts.line(line, &Scope::new())?;
                 self.entry(number)?.text.extend(text);
             }
         }
@@ -348,6 +388,9 @@ impl<'t> Reader<'t> {
 
 /// The entries of a file; what it names joins `texts`.
 pub fn entries(source: &str, texts: &mut Texts) -> Result<Vec<Entry>, String> {
+    if source.contains('\r') || !source.ends_with('\n') {
+        return Err("each line ends with LF alone".to_string());
+    }
     let mut reader = Reader {
         texts,
         entries: Vec::new(),

@@ -5,8 +5,8 @@ use std::collections::{BTreeMap, HashSet, VecDeque};
 
 use crate::generate::{Generator, Random};
 use crate::model::sheets::{self, read_sheet};
-use crate::model::{self, Action, LastPart, Ledger, Row, Sheet, Step};
-use crate::Cases;
+use crate::model::{self, Action, LastPart, Ledger, Play, Row, Sheet, Step};
+use crate::Checks;
 
 /// The least count of own steps from a list of nodes to the empty list, by search over lists, as
 /// the document words it; `None` if there is none.  Only for small sheets.
@@ -44,27 +44,27 @@ fn checked(sheet: &Sheet, participant: usize, rows: &[Row]) -> Result<(), (u32, 
 /// Rows of `make` rise.  In another order they get 21 at the first that is below the one before it, and
 /// sorted they are the same again.
 fn made_in_order(
-    cases: &mut Cases,
+    checks: &mut Checks,
     random: &mut Random,
     sheet: &Sheet,
     participant: usize,
     made: &[Row],
 ) {
     let falls = |pair: &[Row]| pair[1].node < pair[0].node;
-    cases.holds("made rows rise", !made.windows(2).any(falls));
+    checks.holds("made rows rise", !made.windows(2).any(falls));
     let mut other = made.to_vec();
     random.shuffle(&mut other);
     // The second row is line 11.
     let fall = other.windows(2).position(falls);
     let due = fall.map_or(Ok(()), |place| Err((21, 11 + place)));
     let got = checked(sheet, participant, &other);
-    cases.holds("made rows in another order", got == due);
+    checks.holds("made rows in another order", got == due);
     other.sort_by_key(|row| row.node);
-    cases.holds("made rows sorted again", other == made);
+    checks.holds("made rows sorted again", other == made);
 }
 
 /// Rows from anyone get 10 in any order, then 21 if they are not in order, else what they get sorted.
-fn checked_in_order(cases: &mut Cases, sheet: &Sheet, participant: usize, rows: &[Row]) {
+fn checked_in_order(checks: &mut Checks, sheet: &Sheet, participant: usize, rows: &[Row]) {
     let mut sorted = rows.to_vec();
     sorted.sort_by_key(|row| row.node);
     let number = |rows: &[Row]| checked(sheet, participant, rows).map_err(|(number, _)| number);
@@ -73,107 +73,143 @@ fn checked_in_order(cases: &mut Cases, sheet: &Sheet, participant: usize, rows: 
         other if sorted == rows => other,
         _ => Err(21),
     };
-    cases.holds("what the order of rows decides", number(rows) == due);
+    checks.holds("what the order of rows decides", number(rows) == due);
 }
 
+/// The rank of an exit is the least count of own steps, as a search over lists finds it.
+fn ranks_are_least(checks: &mut Checks, sheet: &Sheet, participant: usize) {
+    let exits = model::exits(sheet, participant);
+    for node in 0..sheet.nodes.len() {
+        let rank = exits[node].map(|row| row.rank);
+        let due = least_steps(sheet, participant, node);
+        checks.holds("rank is the least count of own steps", rank == due);
+    }
+}
+
+/// Rows of `make` are accepted, and no rank of theirs can be lower.
+fn made_is_accepted(
+    checks: &mut Checks,
+    random: &mut Random,
+    sheet: &Sheet,
+    participant: usize,
+    made: &[Row],
+) {
+    let got = checked(sheet, participant, made);
+    checks.holds("made rows are accepted", got.is_ok());
+    let place = random.below(made.len());
+    let mut lower = made.to_vec();
+    lower[place].rank -= 1;
+    let got = checked(sheet, participant, &lower);
+    checks.holds("a lower rank is refused", got == Err((13, 10 + place)));
+}
+
+/// Any row for most of the nodes that have branches.
+fn random_rows(random: &mut Random, sheet: &Sheet) -> Vec<Row> {
+    let mut rows = Vec::new();
+    for node in 0..sheet.nodes.len() {
+        let branches = sheet.branches(node).len();
+        if branches > 0 && !random.chance(10) {
+            rows.push(Row {
+                node,
+                branch: random.below(branches),
+                rank: random.between(1, 20) as u64,
+            });
+        }
+    }
+    rows
+}
+
+/// No rows at all are accepted for a frozen sheet: tries some.
+fn frozen_has_no_rows(checks: &mut Checks, random: &mut Random, sheet: &Sheet, participant: usize) {
+    for _ in 0..20 {
+        let got = checked(sheet, participant, &random_rows(random, sheet));
+        checks.holds("no rows for a frozen sheet", got.is_err());
+    }
+}
+
+/// A random run from the start.
+fn runs_stay_reached(checks: &mut Checks, random: &mut Random, sheet: &Sheet) {
+    let reached = model::reached(sheet);
+    let mut list = vec![0];
+    for _ in 0..30 {
+        if list.is_empty() {
+            break;
+        }
+        let place = random.below(list.len());
+        let node = list.swap_remove(place);
+        checks.holds("a run stays among the reached nodes", reached[node]);
+        let branches = sheet.branches(node);
+        if !branches.is_empty() {
+            let number = random.below(branches.len());
+            list.extend(sheet.replaced_by(&branches[number]));
+        }
+    }
+}
+
+/// Balances and payments together are the deposits taken.
+fn is_whole(ledger: &Ledger) -> bool {
+    let alive = ledger.contracts.iter().filter(|contract| contract.alive);
+    let live: u64 = alive.map(|contract| contract.balance).sum();
+    let paid: u64 = ledger.paid.iter().sum();
+    live + paid == ledger.deposits_taken
+}
+
+/// Nothing is lost or made in a play, and a refused event changes nothing.
+fn money_is_kept(checks: &mut Checks, sheet: &Sheet, play: &Play) {
+    let mut ledger = Ledger::stipulate(sheet, play.stipulated.of(&play.values));
+    let mut kept = true;
+    for event in &play.events {
+        let before = ledger.clone();
+        let answer = ledger.step(sheet, *event, &play.values);
+        kept &= is_whole(&ledger);
+        kept &= answer.is_ok() || ledger == before;
+        kept &= ledger.contracts.len() <= 256 && ledger.sets.len() <= 32;
+    }
+    checks.holds("money is kept, refused events change nothing", kept);
+}
+
+/// Sheets with more nodes have too many lists for a search from every node.
+const SMALL: usize = 7;
+
 /// Exits, ranks and reached nodes against searches over lists; money against what was paid in.
-pub fn properties(cases: &mut Cases, seed: u64, count: usize) {
+pub fn properties(checks: &mut Checks, seed: u64, count: usize) {
     let mut generator = Generator::new(seed);
     let mut random = Random::new(seed);
-    let (mut small, mut liquid, mut plays) = (0, 0, 0);
+    let (mut searched, mut liquid, mut plays) = (0, 0, 0);
     for _ in 0..count {
-        let bytes = generator.request();
-        let Ok(request) = model::read(&bytes) else {
+        let Ok(request) = model::read(&generator.request()) else {
             continue;
         };
         let sheet = &request.sheet;
+        let small = sheet.nodes.len() <= SMALL;
         for participant in 0..sheet.participants {
-            if sheet.nodes.len() <= 7 {
-                small += 1;
-                let exits = model::exits(sheet, participant);
-                for node in 0..sheet.nodes.len() {
-                    let rank = exits[node].map(|row| row.rank);
-                    cases.holds(
-                        "rank is the least count of own steps",
-                        rank == least_steps(sheet, participant, node),
-                    );
-                }
+            if small {
+                searched += 1;
+                ranks_are_least(checks, sheet, participant);
             }
-            // Published rows are accepted, and no rank of theirs can be lower.
             if let Ok(made) = model::make(sheet, participant) {
                 liquid += 1;
-                let got = checked(sheet, participant, &made);
-                cases.holds("made rows are accepted", got.is_ok());
-                let place = random.below(made.len());
-                let mut lower = made.clone();
-                lower[place].rank -= 1;
-                let got = checked(sheet, participant, &lower);
-                cases.holds("a lower rank is refused", got == Err((13, 10 + place)));
-                made_in_order(cases, &mut random, sheet, participant, &made);
-            } else if sheet.nodes.len() <= 7 {
-                // No rows at all are accepted for a frozen sheet: try some.
-                for _ in 0..20 {
-                    let mut tried = Vec::new();
-                    for node in 0..sheet.nodes.len() {
-                        let branches = sheet.branches(node).len();
-                        if branches > 0 && !random.chance(10) {
-                            let branch = random.below(branches);
-                            tried.push(Row {
-                                node,
-                                branch,
-                                rank: random.between(1, 20) as u64,
-                            });
-                        }
-                    }
-                    cases.holds(
-                        "no rows for a frozen sheet",
-                        checked(sheet, participant, &tried).is_err(),
-                    );
-                }
+                made_is_accepted(checks, &mut random, sheet, participant, &made);
+                made_in_order(checks, &mut random, sheet, participant, &made);
+            } else if small {
+                frozen_has_no_rows(checks, &mut random, sheet, participant);
             }
         }
-        if let LastPart::Check { participant, rows } = &request.part {
-            checked_in_order(cases, sheet, *participant, rows);
-        }
-        // Random runs stay among the reached nodes.
-        let reached = model::reached(sheet);
-        let mut list = vec![0];
-        for _ in 0..30 {
-            if list.is_empty() {
-                break;
+        runs_stay_reached(checks, &mut random, sheet);
+        match &request.part {
+            LastPart::Check { participant, rows } => {
+                checked_in_order(checks, sheet, *participant, rows)
             }
-            let place = random.below(list.len());
-            let node = list.swap_remove(place);
-            cases.holds("a run stays among the reached nodes", reached[node]);
-            let branches = sheet.branches(node);
-            if !branches.is_empty() {
-                let number = random.below(branches.len());
-                list.extend(sheet.replaced_by(&branches[number]));
+            LastPart::Play(play) => {
+                plays += 1;
+                money_is_kept(checks, sheet, play);
             }
-        }
-        // Nothing is lost or made: balances and payments are the deposits taken.
-        if let LastPart::Play(play) = &request.part {
-            plays += 1;
-            let mut ledger = Ledger::stipulate(sheet, play.stipulated.of(&play.values));
-            let mut whole = true;
-            for event in &play.events {
-                let before = ledger.clone();
-                let answer = ledger.step(sheet, *event, &play.values);
-                let live: u64 = ledger
-                    .contracts
-                    .iter()
-                    .filter(|c| c.alive)
-                    .map(|c| c.balance)
-                    .sum();
-                let paid: u64 = ledger.paid.iter().sum();
-                whole &= live + paid == ledger.deposits_taken;
-                whole &= answer.is_ok() || ledger == before;
-                whole &= ledger.contracts.len() <= 256 && ledger.sets.len() <= 32;
-            }
-            cases.holds("money is kept, refused events change nothing", whole);
+            _ => {}
         }
     }
-    println!("properties: {small} small sheets searched, {liquid} liquid, {plays} plays followed");
+    println!(
+        "properties: {searched} small sheets searched, {liquid} liquid, {plays} plays followed"
+    );
 }
 
 /// The first of the shortest runs from the start to a list that holds the node, by search over lists;
@@ -267,7 +303,7 @@ fn why_holds(sheet: &Sheet, text: &str, participant: usize) -> Option<bool> {
 }
 
 /// `why` against searches over lists, for small sheets.
-pub fn reasons(cases: &mut Cases, seed: u64, count: usize) {
+pub fn reasons(checks: &mut Checks, seed: u64, count: usize) {
     let mut generator = Generator::new(seed);
     let (mut found, mut given_up) = (0, 0);
     for _ in 0..count {
@@ -286,7 +322,7 @@ pub fn reasons(cases: &mut Cases, seed: u64, count: usize) {
             match why_holds(sheet, &text, participant) {
                 Some(holds) => {
                     found += 1;
-                    cases.holds("why", holds);
+                    checks.holds("why", holds);
                 }
                 None => given_up += 1,
             }
@@ -295,9 +331,36 @@ pub fn reasons(cases: &mut Cases, seed: u64, count: usize) {
     println!("why: {found} by search over lists, {given_up} with too many of them");
 }
 
+/// A table that was read is written back to its text, and is the sheet of a request.
+fn read_is_written(checks: &mut Checks, text: &[u8], cells: &[usize]) {
+    let back = sheets::text_of(cells);
+    checks.holds("what was read is written", back.as_deref() == Some(text));
+    let request = [text, b"make,0\n"].concat();
+    let sheet = model::read(&request).ok().map(|request| request.sheet);
+    checks.holds("the same sheet", sheet == sheets::sheet_of(cells));
+}
+
+/// Where a table is that of some text, the text reads to it; whether it is one.
+fn written_is_read(checks: &mut Checks, cells: &[usize], again: &mut [usize]) -> bool {
+    let Some(text) = sheets::text_of(cells) else {
+        return false;
+    };
+    let answer = read_sheet(&text, again);
+    checks.holds("what was written is read", answer.length == text.len());
+    checks.holds("to the same table", again == cells);
+    true
+}
+
+/// The places of each section that holds anything.
+fn filled(cells: &[usize]) -> Vec<Vec<usize>> {
+    let sections = sheets::held(cells).map(|section| section.collect::<Vec<_>>());
+    let filled = sections.into_iter().filter(|section| !section.is_empty());
+    filled.collect()
+}
+
 /// Sheets as tables: what is read is written back, and what is written from a table with another
 /// number reads to that table.
-pub fn both_ways(cases: &mut Cases, seed: u64, count: usize) {
+pub fn both_ways(checks: &mut Checks, seed: u64, count: usize) {
     let mut generator = Generator::new(seed);
     let mut random = Random::new(seed);
     let mut cells = vec![0; sheets::SHEET_CELLS];
@@ -306,37 +369,23 @@ pub fn both_ways(cases: &mut Cases, seed: u64, count: usize) {
     for _ in 0..count {
         let text = generator.sheet_text();
         if read_sheet(&text, &mut cells).number != 0 {
-            cases.holds(
-                "a refused text is no sheet",
-                sheets::sheet_of(&cells).is_none(),
-            );
+            let sheet = sheets::sheet_of(&cells);
+            checks.holds("a refused text is no sheet", sheet.is_none());
             continue;
         }
         read += 1;
-        let back = sheets::text_of(&cells);
-        cases.holds("what was read is written", back.as_deref() == Some(&text));
-        let mut request = text.clone();
-        request.extend_from_slice(b"make,0\n");
-        let sheet = model::read(&request).ok().map(|request| request.sheet);
-        cases.holds("the same sheet", sheet == sheets::sheet_of(&cells));
-        let filled = sheets::held(&cells).map(|section| section.collect::<Vec<_>>());
-        let filled = filled.into_iter().filter(|section| !section.is_empty());
-        let filled: Vec<Vec<usize>> = filled.collect();
+        read_is_written(checks, &text, &cells);
+        let filled = filled(&cells);
         for _ in 0..20 {
             changed += 1;
             let section = &filled[random.below(filled.len())];
             let place = random.pick(section);
             let old = cells[place];
             cells[place] = random.pick(&[old + 1, old.wrapping_sub(1), 0, 1, 2, old ^ 4]);
-            if let Some(text) = sheets::text_of(&cells) {
-                written += 1;
-                let answer = read_sheet(&text, &mut again);
-                cases.holds("what was written is read", answer.length == text.len());
-                cases.holds("to the same table", again == cells);
-            }
+            written += usize::from(written_is_read(checks, &cells, &mut again));
             cells[place] = old;
         }
     }
     println!("tables: {read} read, {changed} changed, {written} of them written");
-    cases.holds("changed tables are written", written > 100);
+    checks.holds("changed tables are written", written > 100);
 }

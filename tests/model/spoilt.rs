@@ -45,34 +45,54 @@ fn meant() -> [Entry; 3] {
 }
 
 /// A part of the file, and what it is spoilt to.
-const SPOILT: [(&str, &str); 27] = [
+const SPOILT: &[(&str, &str)] = &[
+    // what a case is made of
     ("# one\n", ""),
     ("# one\n", "# one\n\n"),
-    ("# one\n", "# one\ntext one\n\n"),
+    ("# one\n", "# one\ntext other\n\n"),
+    ("# one\n", "#one\n"),
     ("> \\x41\n", ""),
-    ("> three", ""),
+    ("> \\x41", ">\\x41"),
+    ("> \\x41\n= held", "= held\n> \\x41"),
+    ("= held", "= held\n> due"),
     ("= held", "\n= held"),
+    ("> three\n", ""),
     ("open\\\n", "open\\\n@ a call\n"),
     ("open\\\n", "open\\\n\n"),
+    // lines
+    ("three\n", "three"),
+    ("three\n", "three\r\n"),
+    ("three", "drei, für"),
+    ("\\x41", "\\x4"),
+    ("\\x41", "\\x+4"),
+    ("\\x41", "\\t"),
+    // names
     ("text pair", "text pair first second\nx\n\ntext pair"),
+    ("text pair first second", "text"),
+    ("text pair first second", "text pair first first"),
+    ("text pair first second", "text pair pair second"),
+    ("text pair first second", "text 2 first second"),
     ("{first},", "{third},"),
+    ("{first}\n\n", "{first}\n"),
     ("{pair a;b}", "{pair a}"),
     ("{pair a;b}", "{pair a;b;c}"),
     ("{pair a;b}", "{pear a;b}"),
     ("{pair a;b}", "{pair a;b"),
     ("{pair a;b}", "pair a;b}"),
+    // repetitions and numbers
     ("{2:x}", "{:x}"),
     ("{2:x}", "{2-3:x}"),
     ("{2:x}", "{i:x}"),
+    ("{2:x}", "{02:x}"),
     ("8..10", "8"),
     ("8..10", "11..10"),
+    ("i=8..10", "pair=8..10"),
+    ("i=8..10", "1=8..10"),
     ("{2*i-1}", "{2*i-}"),
     ("{2*i-1}", "{2*i-20}"),
+    ("{2*i-1}", "{+2}"),
     ("{2*i-1}", "{2*j-1}"),
     ("{2*i-1}", "{i=1..2:x}"),
-    ("\\x41", "\\x4"),
-    ("\\x41", "\\t"),
-    ("three", "drei, für"),
 ];
 
 /// Each trial, and whether it went as it must.

@@ -13,8 +13,9 @@
 use std::collections::VecDeque;
 
 use super::{
-    exits, hold, judge, reached, run_to, Action, Branch, Commitments, Condition, Contract, Event,
-    Part, Place, Reply, Row, Sheet, Span, Step, Term, Text, ALL_ROWS, PARTS, ROWS,
+    exits, fault, hold, judge, reached, run_to, Action, Branch, Commitments, Condition, Contract,
+    Event, Ledger, Part, Place, Reader, Reply, Row, Sheet, Span, Step, Term, Text, Value, ALL_ROWS,
+    PARTS, ROWS,
 };
 
 #[cfg(not(wrong_rules))]
@@ -390,12 +391,20 @@ mod switch {
         Rule::AddIsSecond,
         Rule::AddIn32Bits,
         Rule::AddStops,
+        Rule::AddStopsAt31Bits,
+        Rule::AddStopsAt32Bits,
+        Rule::AddStopsBelow,
         Rule::SubIsAdd,
         Rule::SubIsFirst,
         Rule::SubIsSecond,
         Rule::SubAbsolute,
         Rule::SubClipped,
         Rule::SubTurned,
+        Rule::SubIn32Bits,
+        Rule::SubStops,
+        Rule::SubStopsAt31Bits,
+        Rule::SubStopsAt32Bits,
+        Rule::SubStopsAbove,
         Rule::TrueIsFalse,
         Rule::AndIsOr,
         Rule::AndIsLeft,
@@ -405,11 +414,16 @@ mod switch {
         Rule::EqIsAtMost,
         Rule::EqIsAtLeast,
         Rule::EqOfSizes,
+        Rule::EqIn32Bits,
+        Rule::EqInFloats,
         Rule::LtIsGreater,
         Rule::LtIsAtMost,
         Rule::LtIsUnequal,
         Rule::LtUnsigned,
         Rule::LtOfSizes,
+        Rule::LtIn32Bits,
+        Rule::LtInUnsigned32Bits,
+        Rule::LtInFloats,
     ];
 
     table! { Rule:
@@ -419,13 +433,63 @@ mod switch {
         LeadingZeros "a number may have leading zeros"
         ZeroIsNone "0 itself has a leading zero"
         NumbersIn32Bits "a number wraps at 32 bits"
+        ParticipantsIn16Bits "the count of participants has 16 bits"
+        ParticipantsIn32Bits "the count of participants has 32 bits"
+        DefinitionsIn16Bits "the count of definitions has 16 bits"
+        DefinitionsIn32Bits "the count of definitions has 32 bits"
+        SecretsIn16Bits "the count of secrets has 16 bits"
+        SecretsIn32Bits "the count of secrets has 32 bits"
+        PaidToIn16Bits "the participant of a `w` has 16 bits"
+        PaidToIn32Bits "the participant of a `w` has 32 bits"
+        SignersIn16Bits "a signers field has 16 bits"
+        SignersIn32Bits "a signers field has 32 bits"
+        WeightsIn16Bits "a weight has 16 bits"
+        WeightsIn32Bits "a weight has 32 bits"
+        ListedIn16Bits "a listed secret has 16 bits"
+        ListedIn32Bits "a listed secret has 32 bits"
+        NamedIn16Bits "the secret of a `v` has 16 bits"
+        NamedIn32Bits "the secret of a `v` has 32 bits"
+        NamedIn3Bits "the secret of a `v` has 3 bits"
+        NamedIn6Bits "the secret of a `v` has 6 bits"
+        ConstantsIn16Bits "a constant has 16 bits"
+        ConstantsIn32Bits "a constant has 32 bits"
+        ValuesIn16Bits "a value has 16 bits"
+        ValuesIn32Bits "a value has 32 bits"
+        RanksIn16Bits "a rank that is given has 16 bits"
+        RanksIn32Bits "a rank that is given has 32 bits"
         Spaces "spaces around a field don't count"
         Quotes "a field may have quotes"
         CarriageReturns "a CR before the LF doesn't count"
         Capitals "words may have capitals"
         LongerWords "a word may go on"
+        FirstLetterOfConditions "a word of a condition has its length and first letter"
+        FirstLetterOfExpressions "a word of an expression has its length and first letter"
+        FirstLetterOfParts "a word of the last part has its length and first letter"
+        FirstLetterOfEvents "a word of an event has its length and first letter"
+        FirstLetterOfRow "the word `row` has its length and first letter"
+        FirstLetterOfDef "the word `def` has its length and first letter"
+        LongerConditions "a word of a condition may go on"
+        ShorterConditions "a word of a condition may end before its last letter"
+        CapitalConditions "a word of a condition may have capitals"
+        LongerExpressions "a word of an expression may go on"
+        ShorterExpressions "a word of an expression may end before its last letter"
+        CapitalExpressions "a word of an expression may have capitals"
+        LongerParts "a word of the last part may go on"
+        ShorterParts "a word of the last part may end before its last letter"
+        CapitalParts "a word of the last part may have capitals"
+        LongerEvents "a word of an event may go on"
+        ShorterEvents "a word of an event may end before its last letter"
+        CapitalEvents "a word of an event may have capitals"
+        LongerRow "the word `row` may go on"
+        ShorterRow "the word `row` may end before its last letter"
+        CapitalRow "the word `row` may have capitals"
+        LongerDef "the word `def` may go on"
+        ShorterDef "the word `def` may end before its last letter"
+        CapitalDef "the word `def` may have capitals"
         LinesFrom0 "lines count from 0"
         FieldsFrom0 "fields count from 0"
+        LinesTo999 "lines have three digits"
+        FieldsTo9999 "fields have four digits"
         EmptyLinesSkipped "empty lines are skipped"
         MissingLineBefore "a missing line is told on the line before it"
         MissingAtTheLast "a missing field is told at the field before it"
@@ -456,6 +520,7 @@ mod switch {
         DepositFrom1 "a deposit is 1 at least"
         DepositsOfAll "the deposits of all definitions are under the limit of one"
         SumAtTheLast "too large a sum of deposits is told at the last deposit"
+        SumOfFifteen "the sixteenth deposit may pass the sum"
         SumIsFour "too large a sum of deposits gets 4"
         SecretsFrom1 "a definition has 1 secret at least"
         BranchesFrom1 "a contract has 1 branch at least"
@@ -495,6 +560,17 @@ mod switch {
         NoXInRenewals "`renew` takes no `x`"
         NinthValueRead "a ninth value is read before it is too many"
         FarSignersAreFour "`sign` by a participant above 65,535 gets 4"
+        ContractsWrap "c of an event wraps at 256"
+        BranchesWrap "b of an event wraps at 16"
+        SetsWrap "i of a `tell` wraps at 32"
+        SecretsWrap "j of a `tell` wraps at 8"
+        ContractsIn15Bits "c of an event has 15 bits"
+        BranchesIn15Bits "b of an event has 15 bits"
+        SetsIn15Bits "i of a `tell` has 15 bits"
+        SecretsIn15Bits "j of a `tell` has 15 bits"
+        EmptyAfterSign "an empty field after a `sign` is no field"
+        EmptyAfterTell "an empty field after a `tell` is no field"
+        EmptyAfterFire "an empty field after a `fire` is no field"
         RowBranchOfAny "the branch of a row is any number below 16 while reading"
         TwiceWhileReading "10 is given before the lines after it are read"
         FallWhileReading "21 is given before the lines after it are read"
@@ -552,11 +628,19 @@ mod switch {
         OwnersIgnored "own with anyone's secrets"
         OneOwnedSuffices "own if one of the secrets is P's"
         FirstOwnedSuffices "own if the first secret is P's"
+        First2OwnedSuffice "own if the first 2 secrets are P's"
+        First7OwnedSuffice "own if the first 7 secrets are P's"
         RenewalsOwn "`g` is own"
         RenewalsOwnAlone "`g` is own with K = 1"
         MustBeOpen "own only with opening time 0"
+        SplitsMustBeOpen "`s` is own only with opening time 0"
+        RevealsMustBeOpen "`r` is own only with opening time 0"
         EmptyIsAnExit "a contract of no branches is an exit"
         ExitsNotAsked "contracts of the branch need no exit"
+        ExitsByFirst8 "only the first 8 branches are exits"
+        ExitsByFirst15 "only the first 15 branches are exits"
+        ExitsOfFirst2 "only the first 2 contracts of the branch need an exit"
+        ExitsOfFirst7 "only the first 7 contracts of the branch need an exit"
         EveryNode "every node is reached"
         RootAlone "only the root must have an exit"
         ExitPathOnly "only nodes on the exit path count"
@@ -564,10 +648,21 @@ mod switch {
         OpenBranchesOnly "only branches with opening time 0 lead to reached nodes"
         UnsignedBranchesOnly "only branches with no signers lead to reached nodes"
         RenewalsNotFollowed "renewals don't lead to reached nodes"
+        First2PartsFollowed "an `s` leads to its first 2 contracts alone"
+        First7PartsFollowed "an `s` leads to its first 7 contracts alone"
+        First8BranchesFollowed "only the first 8 branches lead to reached nodes"
+        First15BranchesFollowed "only the first 15 branches lead to reached nodes"
+        LaterRevealsNotFollowed "an `r` with an opening time doesn't lead to reached nodes"
+        LaterRenewalsNotFollowed "a renewal with an opening time doesn't lead to reached nodes"
+        SignedRevealsNotFollowed "a signed `r` doesn't lead to reached nodes"
+        SignedRenewalsNotFollowed "a signed renewal doesn't lead to reached nodes"
         FalseNotFollowed "branches that are never true don't lead to reached nodes"
         MadeForTheFirst "`make` is for participant 0"
         MadeWithout1 "a made rank is the sum alone"
         MadeByLargest "a made rank is 1 + the largest"
+        MadeStopsAt32 "made ranks stop at 32"
+        MadeStopsAt255 "made ranks stop at 255"
+        MadeInAByte "made ranks wrap at 256"
         TiesToTheHigher "of equal ranks the highest branch is made"
         FirstBranch "the first branch with an exit is made"
         LastBranch "the last branch with an exit is made"
@@ -606,6 +701,8 @@ mod switch {
         StepsAlone "`why` tells steps and no causes"
         CausesAlone "`why` tells causes and no steps"
         StepsToTheFirstPart "a step by an `s` leads to its first contract alone"
+        StepsToFirst2Parts "a step by an `s` leads to its first 2 contracts alone"
+        StepsToFirst7Parts "a step by an `s` leads to its first 7 contracts alone"
         StepsToTheLastPart "a step by an `s` leads to its last contract alone"
         StepsFromTheLast "the run begins at the last definition"
         LastRun "of the shortest runs the last is told"
@@ -616,9 +713,14 @@ mod switch {
         StepBranchesAsTexts "branches of steps are compared as texts"
         StepNodesAsBytes "nodes of steps are compared as bytes"
         OwnStepsOnly "the run has own steps alone"
+        StepsByFirst8 "the run has steps by the first 8 branches alone"
+        StepsByFirst15 "the run has steps by the first 15 branches alone"
         OpenStepsOnly "the run has steps with opening time 0 alone"
         UnsignedStepsOnly "the run has steps that nobody signs alone"
         NoStepsByRenewals "the run has no renewals"
+        NoStepsByLaterReveals "the run has no `r` with an opening time"
+        NoStepsByLaterRenewals "the run has no renewals with an opening time"
+        NoStepsBySignedRenewals "the run has no signed renewals"
         NoFalseSteps "the run has no steps that are never true"
         AnyRun "the first run is told, shortest or not"
         RunFromTheEnd "runs are compared from their last step on"
@@ -637,6 +739,8 @@ mod switch {
         AllLackExits "cause 5 if all contracts of the branch lack an exit"
         FirstLacksAnExit "cause 5 if the first contract of the branch lacks an exit"
         LastLacksAnExit "cause 5 if the last contract of the branch lacks an exit"
+        First2LackAnExit "cause 5 if one of the first 2 contracts of the branch lacks an exit"
+        First7LackAnExit "cause 5 if one of the first 7 contracts of the branch lacks an exit"
         RenewalsAreNoCause "a renewal has no cause 4"
         LastCause "the highest cause that applies is told"
         SignedAlongIsNoCause "no cause 1 where P signs too"
@@ -651,6 +755,8 @@ mod switch {
         AllSecretsAnothers "cause 2 only if all secrets are others'"
         FirstSecretAnothers "cause 2 only if the first secret is another's"
         LastSecretAnothers "cause 2 only if the last secret is another's"
+        First2SecretsOnly "cause 2 only for the first 2 secrets"
+        First7SecretsOnly "cause 2 only for the first 7 secrets"
         SecretsAreNoCause "no cause 2"
         FalseIsNoCause "no cause 3 for a condition that names no secret and is false"
         NamingIsNoCause "no cause 3 for a condition that names a secret"
@@ -708,7 +814,16 @@ mod switch {
         RowsOfOwnOnly "only contracts of own branches need rows"
         RowsOfFalseNotAsked "contracts of branches that are never true need no rows"
         RowsOfRenewalsNotAsked "roots that are renewed as need no rows"
+        RowsOfEarlierRenewalsNotAsked "roots that are renewed as by branches before the row's own need no rows"
+        RowsOfFirst8Branches "only contracts of the first 8 branches need rows"
+        RowsOfFirst15Branches "only contracts of the first 15 branches need rows"
+        RowsOfOpenOnly "only contracts of branches with opening time 0 need rows"
+        RowsOfUnsignedOnly "only contracts of branches that nobody signs need rows"
+        RowsOfFirst2 "only the first 2 contracts of a branch need rows"
+        RowsOfFirst7 "only the first 7 contracts of a branch need rows"
         RankByLargest "a rank is at least 1 + the largest"
+        RankOfFirst2 "a rank is at least 1 + the sum of the first 2"
+        RankOfFirst7 "a rank is at least 1 + the sum of the first 7"
         RankByPublished "a rank is at least 1 + the sum of the least ranks"
         RankWithout1 "a rank is at least the sum"
         RankAnything "any rank will do"
@@ -729,12 +844,20 @@ mod switch {
         AddIsSecond "`add` is its second"
         AddIn32Bits "sums wrap at 32 bits"
         AddStops "sums stop at 1,000,000,000"
+        AddStopsAt31Bits "sums stop at 2^31"
+        AddStopsAt32Bits "sums stop at 2^32"
+        AddStopsBelow "sums stop at 2^31 below 0"
         SubIsAdd "`sub` adds"
         SubIsFirst "`sub` is its first"
         SubIsSecond "`sub` is its second"
         SubAbsolute "a difference is never negative but turned"
         SubClipped "a difference stops at 0"
         SubTurned "`sub` takes the first from the second"
+        SubIn32Bits "differences wrap at 32 bits"
+        SubStops "differences stop at 1,000,000,000 below 0"
+        SubStopsAt31Bits "differences stop at 2^31 below 0"
+        SubStopsAt32Bits "differences stop at 2^32 below 0"
+        SubStopsAbove "differences stop at 2^31"
         TrueIsFalse "`t` is false"
         AndIsOr "`and` is or"
         AndIsLeft "`and` is its first"
@@ -744,18 +867,25 @@ mod switch {
         EqIsAtMost "`eq` is at most"
         EqIsAtLeast "`eq` is at least"
         EqOfSizes "`eq` leaves the sign out"
+        EqIn32Bits "`eq` compares 32 bits"
+        EqInFloats "`eq` compares floating-point numbers"
         LtIsGreater "`lt` is greater"
         LtIsAtMost "`lt` is at most"
         LtIsUnequal "`lt` is unequal"
         LtUnsigned "for `lt` a negative number is above all others"
         LtOfSizes "`lt` leaves the sign out"
+        LtIn32Bits "`lt` compares 32 bits"
+        LtInUnsigned32Bits "`lt` compares 32 bits of what is not negative"
+        LtInFloats "`lt` compares floating-point numbers"
         // the ledger
         FirstDepositOnly "contract 0 has the first deposit alone"
+        FifteenDeposits "contract 0 has the first 15 deposits alone"
         StipulatedAsTheLast "contract 0 is at the root of the last definition"
         StipulationNotCounted "the deposits of stipulation are not among those taken"
         BornSigned "a contract is signed when made"
         NumbersGivenTwice "a dead contract's number is given again"
         WaitsFromZero "`wait` sets the time"
+        WaitsUnsign "a `wait` clears all signatures"
         DeadSigned "a dead contract is signed"
         RenewalsNotSigned "a `g` is not signed"
         SignedWhenOpen "signed not before opening time"
@@ -764,6 +894,7 @@ mod switch {
         SignedTwiceAfterOthers "signing again is taken once another has signed"
         OneSignsForAll "one signs for all"
         SignsEveryBranch "signing one branch signs all"
+        SignsForTheNode "signing a contract signs all at its node"
         ToldByContract "`tell` names the set by one of its contracts"
         TellsInEverySet "a secret is told in every set"
         ToldTwice "a told secret is told again"
@@ -775,12 +906,19 @@ mod switch {
         UnknownSecretIs14 "an unknown secret gets 14"
         DeadFired "a dead contract fires"
         NoBranchIs16 "an unknown contract or branch gets 16"
+        DeadAfter15 "of a dead contract 15 comes before 14"
+        DeadAfter16 "of a dead contract 16 comes before 14"
+        DeadAfter17 "of a dead contract 17 comes before 14"
+        DeadAfter18 "of a dead contract 18 comes before 14"
+        DeadAfter19 "of a dead contract 19 comes before 14"
         WithdrawalsMake "`w` counts as making a contract"
         SplitsMakeOne "`s` counts as making one contract"
         RevealsMakeNone "`r` counts as making no contract"
         RenewalsMakeNone "`renew` counts as making no contract"
         LiveCounted "only live contracts count as made"
         FiredAfterOpening "fired only after opening time"
+        FiredIn16Bits "for `fire` times are compared by 16 bits"
+        FiredInSigned32Bits "for `fire` times above 2^31 are below 0"
         FiredEarly "fired before opening time"
         OneSignerSuffices "one signer suffices for `fire`"
         FiredUnsigned "fired unsigned"
@@ -790,6 +928,8 @@ mod switch {
         HeldCounted "what has been paid is no longer among the deposits taken"
         EmptySetsNotCounted "a set of no secrets doesn't count"
         RenewedAfterOpening "renewed only after opening time"
+        RenewedIn16Bits "for `renew` times are compared by 16 bits"
+        RenewedInSigned32Bits "for `renew` times above 2^31 are below 0"
         RenewedEarly "renewed before opening time"
         OneRenewerSuffices "one signer suffices for `renew`"
         RenewedUnsigned "renewed unsigned"
@@ -797,8 +937,10 @@ mod switch {
         MoreValuesTaken "`renew` takes more values"
         FirstSetServes "set 0 serves every contract"
         NewestSetServes "the newest set serves every contract"
+        FirstSetsServe "the first 16 sets serve in turn"
         OldSetsServe "a secret told in any set serves"
         UntoldServe "untold secrets serve"
+        ZerosServe "a value of 0 counts as told"
         OneToldSuffices "one told secret of an `r` suffices"
         FirstToldSuffices "the first secret of an `r` suffices"
         NamedToldSuffice "the secrets that the condition names suffice"
@@ -808,14 +950,24 @@ mod switch {
         ConstantsRefused "a condition that names no secret doesn't serve"
         RefusedFiringsKill "a refused firing kills the contract"
         RefusedWaitsMove "a refused wait moves the time to its limit"
+        RefusedRenewalsTake "the deposits of a refused renewal are among those taken"
+        RefusedRenewalsMakeSets "a renewal that gets 19 makes a set"
+        RefusedRenewalsMakeContracts "a renewal that gets 19 counts as making a contract"
         PartsOfTheFirstSet "parts have set 0"
+        RevealedOfTheFirstSet "the contract of an `r` has set 0"
         FiredLivesOn "a fired contract lives on"
+        FiringsEndTheNode "a firing ends all contracts at the node"
         PaidToTheFirst "`w` pays participant 0"
         PaidAnew "what was paid before is forgotten"
         WeightsPerMille "weights are parts of 1,000"
         WeightsAlike "all parts get the same"
+        WeightsOfFirst7 "the sum of weights is that of the first 7"
+        WeightsStop "the sum of weights stops at 4,095"
         SharesDividedFirst "a share is weight times the floor of balance / sum"
         SharesRoundedUp "shares are rounded up"
+        SharesInFloats "shares are floating-point numbers"
+        SharesByQuotients "a share is the balance times a floating-point quotient"
+        SharesInShortFloats "shares are floating-point numbers of 32 bits"
         SharesRounded "shares are rounded to the nearest"
         SharesOfTheRest "each share is taken of what the earlier ones left"
         RemainderToTheFirst "the first part gets the remainder"
@@ -823,17 +975,24 @@ mod switch {
         RemainderLost "the remainder is lost"
         PartsBackwards "parts are made from the last to the first"
         SignaturesKept "a fired contract's signatures stay for its parts"
+        FiringsUnsign "a firing clears the signatures of other contracts"
         RenewedAsTheFirst "renewed as definition 0"
         RenewedAsTheOld "renewed as the old definition"
+        RenewedBelow16 "renewed as one of the first 16 definitions"
         DepositsOfTheFirst "a renewal adds the deposits of definition 0"
         DepositsOfTheOld "a renewal adds the deposits of the old definition"
         RenewedLivesOn "a renewed contract lives on"
         RenewalsNotCounted "the deposits of renewals are not among those taken"
+        FirstDepositCounted "of the deposits of renewals the first alone is among those taken"
+        FirstDepositLimited "a renewal is refused for its first deposit alone"
+        FifteenLimited "a renewal is refused for its first 15 deposits alone"
         RenewedStaysTold "the told secrets are told in the new set too"
         OldSetKept "a renewed contract keeps its set"
         NoDepositsAdded "a renewal adds no deposits"
+        FifteenRenewed "a renewal adds the first 15 deposits alone"
         BalanceLeftOut "a renewal leaves the old balance out"
         RenewedSignaturesKept "a renewed contract's signatures stay"
+        RenewalsUnsign "a renewal clears the signatures of other contracts"
         EventLinesFromPlay "the lines of events count from that of `play`"
         EventLinesOneEarly "an event is told on the line before it"
         EventsAtField1 "14 to 19 are told at field 1"
@@ -936,6 +1095,110 @@ pub fn keep_signatures(contracts: &mut [Contract], from: usize, before: usize) {
     }
 }
 
+pub fn unsign(contracts: &mut [Contract]) {
+    for contract in contracts {
+        contract.signed.fill(0);
+    }
+}
+
+/// The event with a smaller number of its contract.
+pub fn wrap_contract(mut event: Event, below: u32) -> Event {
+    if let Event::Sign { contract, .. }
+    | Event::Fire { contract, .. }
+    | Event::Renew { contract, .. } = &mut event
+    {
+        *contract %= below;
+    }
+    event
+}
+
+/// The event with a smaller number of its branch.
+pub fn wrap_branch(mut event: Event, below: u32) -> Event {
+    if let Event::Sign { branch, .. } | Event::Fire { branch, .. } | Event::Renew { branch, .. } =
+        &mut event
+    {
+        *branch %= below;
+    }
+    event
+}
+
+/// The event with smaller numbers of its set and its secret.
+pub fn wrap_tell(mut event: Event, sets: u32, secrets: u32) -> Event {
+    if let Event::Tell { set, secret } = &mut event {
+        (*set, *secret) = (*set % sets, *secret % secrets);
+    }
+    event
+}
+
+/// The refusal of an event where a dead contract gets this number, if it applies, before 14.
+pub fn dead_after(
+    number: u32,
+    ledger: &Ledger,
+    sheet: &Sheet,
+    event: Event,
+    values: &[Value],
+) -> Option<u32> {
+    let mut living = ledger.clone();
+    if let Event::Sign { contract, .. }
+    | Event::Fire { contract, .. }
+    | Event::Renew { contract, .. } = event
+    {
+        if let Some(contract) = living.contracts.get_mut(contract as usize) {
+            contract.alive = true;
+        }
+    }
+    let other = living.refusal(sheet, event, values);
+    let right = ledger.refusal(sheet, event, values);
+    other.filter(|it| *it == number).or(right)
+}
+
+/// All contracts at the node of this one have its signatures.
+pub fn sign_for_the_node(contracts: &mut [Contract], from: usize) {
+    let Contract { node, signed, .. } = contracts[from];
+    let same = contracts.iter_mut().filter(|other| other.node == node);
+    same.for_each(|other| other.signed = signed);
+}
+
+pub fn end_the_node(contracts: &mut [Contract], node: usize) {
+    let same = contracts.iter_mut().filter(|other| other.node == node);
+    same.for_each(|other| other.alive = false);
+}
+
+/// Takes the deposits of a refused renewal.
+pub fn take_all_the_same(ledger: &mut Ledger, sheet: &Sheet, event: Event) {
+    let Event::Renew {
+        contract, branch, ..
+    } = event
+    else {
+        return;
+    };
+    let branch = ledger.branch(sheet, contract as usize, branch as usize);
+    if let Some(Action::Renew { definition }) = branch.map(|branch| branch.action) {
+        ledger.deposits_taken += sheet.deposits(definition).iter().sum::<u64>();
+    }
+}
+
+/// A renewal that got 19 makes a set.
+pub fn make_a_set(ledger: &mut Ledger, event: Event, number: u32) {
+    if matches!((event, number), (Event::Renew { .. }, 19)) {
+        ledger.sets.push(Commitments::default());
+    }
+}
+
+/// A renewal that got 19 makes a contract, which is dead.
+pub fn make_a_contract(ledger: &mut Ledger, event: Event, number: u32) {
+    if matches!((event, number), (Event::Renew { .. }, 19)) {
+        let mut made = ledger.contracts[0];
+        made.alive = false;
+        ledger.contracts.push(made);
+    }
+}
+
+/// Is the value of the secret 0?
+pub fn is_zero(set: &Commitments, secret: u8) -> bool {
+    set.values.get(usize::from(secret)) == Some(&Value::Number(0))
+}
+
 /// The last set has told what the old one has.
 pub fn stay_told(sets: &mut [Commitments], old: usize) {
     let told = sets[old].told;
@@ -991,6 +1254,64 @@ pub fn parts_first(sheet: &Sheet, node: usize) -> usize {
     };
     // Those that appeared earlier have ended, all but the ones around it, which are depth - 1.
     node - (sheet.nodes[node].depth - 1) + within(node)
+}
+
+pub const CONDITION_WORDS: &[&[u8]] = &[b"t", b"and", b"not", b"eq", b"lt"];
+pub const EXPRESSION_WORDS: &[&[u8]] = &[b"k", b"v", b"add", b"sub"];
+pub const PART_WORDS: &[&[u8]] = &[b"makeall", b"make", b"why", b"check", b"play"];
+pub const EVENT_WORDS: &[&[u8]] = &[b"wait", b"sign", b"tell", b"fire", b"renew"];
+
+/// The first of the words for which this holds, where the text is none of them.
+fn word_for<'t>(text: &'t [u8], words: &[&'t [u8]], holds: impl Fn(&[u8]) -> bool) -> &'t [u8] {
+    let found = words.iter().find(|word| holds(word));
+    match found {
+        Some(word) if !words.contains(&text) => word,
+        _ => text,
+    }
+}
+
+/// The word that the text goes on from.
+pub fn longer<'t>(text: &'t [u8], words: &[&'t [u8]]) -> &'t [u8] {
+    word_for(text, words, |word| text.starts_with(word))
+}
+
+/// The word that the text is without its last letter.
+pub fn shorter<'t>(text: &'t [u8], words: &[&'t [u8]]) -> &'t [u8] {
+    word_for(text, words, |word| {
+        !text.is_empty() && *text == word[..word.len() - 1]
+    })
+}
+
+/// The word that has the length and the first letter of the text.
+pub fn alike<'t>(text: &'t [u8], words: &[&'t [u8]]) -> &'t [u8] {
+    word_for(text, words, |word| {
+        word.len() == text.len() && word[0] == text[0]
+    })
+}
+
+/// The word that the text is in capitals.
+pub fn capital<'t>(text: &'t [u8], words: &[&'t [u8]]) -> &'t [u8] {
+    word_for(text, words, |word| text.eq_ignore_ascii_case(word))
+}
+
+/// The number that the last bits make.
+pub fn low(number: u64, bits: u32) -> u64 {
+    number & ((1 << bits) - 1)
+}
+
+impl Reader<'_> {
+    /// Reads a count or an amount of which only the last bits are looked at.
+    pub fn ranged_in(&mut self, bits: u32, least: u64, most: u64) -> Result<u64, u32> {
+        let fits = |number| (least..=most).contains(&low(number, bits));
+        let number = self.number(|number| fault(4, !fits(number)))?;
+        Ok(low(number, bits))
+    }
+
+    /// Reads the number of a thing of which only the last bits are looked at.
+    pub fn thing_in(&mut self, bits: u32, count: usize) -> Result<usize, u32> {
+        let number = self.number(|number| fault(6, low(number, bits) >= count as u64))?;
+        Ok(low(number, bits) as usize)
+    }
 }
 
 /// A field without its quotes.
@@ -1211,6 +1532,31 @@ pub fn is_other(sheet: &Sheet, branch: &Branch) -> bool {
 /// Has the branch a condition that names no secret and is false?
 pub fn is_false(sheet: &Sheet, branch: &Branch) -> bool {
     condition_of(sheet, branch).is_some_and(|it| it.holds(|_| None) == Some(false))
+}
+
+/// All branches but those for which this holds.
+pub fn but(sheet: &Sheet, holds: fn(&Branch) -> bool) -> impl Fn(usize, usize) -> bool + '_ {
+    move |node, number| !holds(&sheet.branches(node)[number])
+}
+
+fn is_reveal(branch: &Branch) -> bool {
+    matches!(branch.action, Action::Reveal { .. })
+}
+
+pub fn is_later_reveal(branch: &Branch) -> bool {
+    is_reveal(branch) && branch.opens > 0
+}
+
+pub fn is_signed_reveal(branch: &Branch) -> bool {
+    is_reveal(branch) && branch.signers != 0
+}
+
+pub fn is_later_renewal(branch: &Branch) -> bool {
+    branch.is_renewal() && branch.opens > 0
+}
+
+pub fn is_signed_renewal(branch: &Branch) -> bool {
+    branch.is_renewal() && branch.signers != 0
 }
 
 /// The condition of the first `r` of a sheet.

@@ -10,11 +10,14 @@
 //!
 //! The deepest and the longest requests (requests.rs) are answered each in a process of its own, so that one
 //! that runs past its stack ends that process alone.  The answers must be those that a large stack gives, and
-//! too small a stack must end the process; none of them leaves a core file.
+//! too small a stack must end the process; none of them leaves a core file.  The program is also tried on a small
+//! request with stacks and environments of several sizes.
 
 #[allow(dead_code)]
 #[path = "../entry/library.rs"]
 mod library;
+#[path = "../judge/longest.rs"]
+mod longest;
 mod requests;
 
 use std::error::Error;
@@ -37,8 +40,12 @@ const PROGRAM: usize = 1_280;
 const ENVIRONMENT: usize = 256;
 const PLENTY: usize = 65_536;
 
-/// The cells of a table.
-const CELLS: usize = 52_072;
+/// The signal that ends a program which runs past its stack.
+const SIGSEGV: i32 = 11;
+/// The status of a shell that cannot start a program, and the kernel's word for arguments and an environment
+/// that it does not take.
+const NOT_STARTED: i32 = 126;
+const TOO_LONG: &str = "Argument list too long";
 
 impl Request {
     /// Is it answered so?
@@ -78,7 +85,7 @@ fn printed(reply: &Reply, text: &[u8]) -> Vec<u8> {
 fn on_thread(asked: Asked, kib: usize) -> Tried<Vec<u8>> {
     let mut rows = vec![Row::default(); library::ALL_ROWS];
     let mut text = vec![0; library::TEXT];
-    let mut cells = vec![0; CELLS];
+    let mut cells = vec![0; library::CELLS];
     if let Asked::Write(sheet) = &asked {
         // The table is filled here, where the stack is large.
         library::read_sheet(sheet.as_bytes(), &mut cells);
@@ -121,22 +128,45 @@ struct Test {
     failures: usize,
 }
 
+/// Variables that take so many KiB, with the zeros behind them; one alone may take no more than 128.
+fn variables(kib: usize) -> Vec<(String, String)> {
+    let variable = |number: usize| {
+        let name = format!("V{number:04}");
+        let value = "x".repeat(1_024 - name.len() - "=\0".len());
+        (name, value)
+    };
+    (0..kib).map(variable).collect()
+}
+
+/// Did it write this, and complain of nothing?
+fn wrote(output: &Output, due: &[u8]) -> bool {
+    output.status.success() && output.stdout == due && output.stderr.is_empty()
+}
+
+/// Did the program run past its stack, with nothing written?
+fn ran_past(output: &Output) -> bool {
+    let Output {
+        status,
+        stdout,
+        stderr,
+    } = output;
+    let ended = status.signal() == Some(SIGSEGV) && !status.core_dumped();
+    ended && stdout.is_empty() && stderr.is_empty()
+}
+
+/// Did the kernel refuse to start it for its environment?
+fn not_started(output: &Output) -> bool {
+    let said = String::from_utf8_lossy(&output.stderr);
+    let refused = output.status.code() == Some(NOT_STARTED) && said.contains(TOO_LONG);
+    refused && output.stdout.is_empty()
+}
+
 /// How a process ended, and the beginning of what it wrote.
 fn shown(output: &Output) -> String {
     let most = output.stdout.len().min(100);
     let bytes = output.stdout[..most].escape_ascii();
     let said = output.stderr.escape_ascii();
     format!("{}, \"{bytes}\" {said}", output.status)
-}
-
-/// Variables that take so many KiB; none may be longer than 128.
-fn environment(kib: usize) -> Vec<(String, String)> {
-    let each = |number: usize| {
-        let name = format!("V{number:03}");
-        let value = "x".repeat(1_024 - name.len() - "=\0".len());
-        (name, value)
-    };
-    (0..kib).map(each).collect()
 }
 
 impl Test {
@@ -162,7 +192,7 @@ impl Test {
         let mut command = Command::new("sh");
         let script = format!("ulimit -c 0 && ulimit -s {limit} && exec \"$0\"");
         command.arg("-c").arg(script).arg(&self.judge);
-        command.env_clear().envs(environment(kib));
+        command.env_clear().envs(variables(kib));
         Ok(command.stdin(File::open(&self.input)?).output()?)
     }
 
@@ -173,7 +203,7 @@ impl Test {
         let holds = request.is_answered(&due);
         self.case(&format!("{name}, {PLENTY} KiB"), holds, &due);
         let got = self.library(name, LIBRARY)?;
-        let holds = got.status.success() && got.stdout == due.stdout;
+        let holds = wrote(&got, &due.stdout);
         self.case(&format!("{name}, {LIBRARY} KiB"), holds, &got);
         if let Asked::Judge(asked) = &request.asked {
             std::fs::write(&self.input, asked)?;
@@ -181,8 +211,9 @@ impl Test {
             let mut free = Command::new(&self.judge);
             let free = free.stdin(File::open(&self.input)?).output()?;
             let limited = self.program(PROGRAM, ENVIRONMENT)?;
-            for (what, got) in [("no limit", free), ("1,280 KiB", limited)] {
-                let holds = got.status.success() && got.stdout == due.stdout;
+            let what = format!("{PROGRAM} KiB");
+            for (what, got) in [("no limit", free), (&what, limited)] {
+                let holds = wrote(&got, &due.stdout);
                 self.case(&format!("{name}, the program, {what}"), holds, &got);
             }
         }
@@ -191,16 +222,43 @@ impl Test {
 
     /// Too small a stack ends the process by a signal, with nothing written.
     fn too_small(&mut self, Request { name, asked, .. }: &Request) -> Tried<()> {
-        let ended = |output: &Output| output.status.signal().is_some() && output.stdout.is_empty();
         let kib = asked.too_small();
         let got = self.library(name, kib)?;
-        let holds = ended(&got);
+        // Rust's own threads end in an abort, not in SIGSEGV.
+        let holds = got.status.signal().is_some() && got.stdout.is_empty();
         self.case(&format!("{name}, only {kib} KiB"), holds, &got);
         if let Asked::Judge(request) = asked {
             std::fs::write(&self.input, request)?;
             let got = self.program(kib, 0)?;
-            let holds = ended(&got);
+            let holds = ran_past(&got);
             self.case(&format!("{name}, the program, only {kib} KiB"), holds, &got);
+        }
+        Ok(())
+    }
+
+    /// The program on a small request.  What its arguments and environment take comes out of its stack; with
+    /// too many of them the kernel does not start it.
+    fn environments(&mut self) -> Tried<()> {
+        let (request, answer) = requests::SMALL;
+        std::fs::write(&self.input, request)?;
+        let answered = |got: &Output| wrote(got, answer.as_bytes());
+        // Stacks and environments, in KiB; the kernel takes up to a quarter of the stack.
+        let enough = [(PROGRAM, 0), (PROGRAM, 200), (PROGRAM, ENVIRONMENT)];
+        let refused = [(PROGRAM, 320), (PROGRAM, 1_024)];
+        let ends: [(&str, &dyn Fn(&Output) -> bool, &[(usize, usize)]); 5] = [
+            ("answered", &answered, &enough),
+            ("answered", &answered, &[(4 * PROGRAM, 4 * ENVIRONMENT)]),
+            ("too small", &ran_past, &[(128, 0), (512, 0), (768, 0)]),
+            // Enough for the program, but the environment takes the rest of it.
+            ("no room left", &ran_past, &[(1_000, 240)]),
+            ("not started", &not_started, &refused),
+        ];
+        for (due, holds, sizes) in ends {
+            for &(limit, kib) in sizes {
+                let got = self.program(limit, kib)?;
+                let what = format!("a stack of {limit} KiB, an environment of {kib}: {due}");
+                self.case(&what, holds(&got), &got);
+            }
         }
         Ok(())
     }
@@ -240,6 +298,7 @@ impl Test {
         for request in all.iter().filter(deepest) {
             self.too_small(request)?;
         }
+        self.environments()?;
         println!("the least stacks that are enough for the deepest:");
         for request in all.iter().filter(deepest) {
             self.report(request)?;

@@ -1,5 +1,7 @@
 //! Requests and sheets that ask for the most stack: contracts and conditions as deep as they may be, under
-//! every word, and the longest of each.
+//! every word, and the longest of each; and one that asks for the least.
+
+use crate::longest::{longest_play, LONGEST};
 
 /// What the library is asked.
 pub enum Asked {
@@ -20,8 +22,14 @@ pub struct Request {
     pub last: &'static str,
 }
 
-/// The longest request.
-const LONGEST: usize = 65_536;
+/// A name and a request, how many lines answer it, and how the last begins.
+type Named = (&'static str, String, usize, &'static str);
+
+/// A small request, and its answer.
+pub const SMALL: (&str, &str) = (
+    "bitml,1,1\ndef,1,0,c,1,0,0,w,0\nmake,0\n",
+    "row,0,0,1\nliquid,0,1,1\n",
+);
 
 /// In the name of those that ask for the most stack.
 pub const DEEPEST: &str = "nots";
@@ -58,7 +66,7 @@ fn deep(depth: usize, condition: &str, more: usize) -> String {
 
 /// Every word on a deep sheet, with the rows that `make` gives, and a play down the chain, where the condition
 /// is asked, and then out.
-fn words(sheet: &str) -> [(&'static str, String, usize, &'static str); 5] {
+fn words(sheet: &str) -> [Named; 5] {
     let rows: String = (0..31)
         .map(|node| format!("row,{node},{},{}\n", node / 30, 31 - node))
         .collect();
@@ -109,22 +117,13 @@ fn longest_way() -> String {
     format!("bitml,1,16\n{definitions}def,1,1,0,{reveals}c,2,0,0,g,0,0,0,g,15\n")
 }
 
-/// Waits up to about the last byte, and how many they are.
-fn longest_play() -> (String, usize) {
-    let (head, wait) = ("bitml,1,1\ndef,1,0,c,0\nplay\n", "wait,1\n");
-    let waits = (LONGEST - head.len()) / wait.len();
-    (format!("{head}{}", wait.repeat(waits)), waits)
-}
-
-/// Requests on the widest sheets, the longest ones, and those that go one too deep.
-fn largest() -> Vec<(&'static str, String, usize, &'static str)> {
+/// Requests on the widest sheets, and the longest of plays.
+fn largest() -> [Named; 6] {
     let (widest, way) = (widest(), longest_way());
-    let (play, waits) = longest_play();
-    let nots = |count: usize| "not,".repeat(count) + "t";
-    let deeper = deep(DEPTH + 1, &nots(63), 0);
-    let longer = deep(DEPTH, &nots(64), 0);
+    let (play, played) = longest_play();
+    let answered = played.lines().count();
     let (made, liquid) = (512 + 1, "liquid,15,512,1");
-    vec![
+    [
         ("widest, make", format!("{widest}make,15\n"), made, liquid),
         (
             "widest, makeall",
@@ -145,7 +144,16 @@ fn largest() -> Vec<(&'static str, String, usize, &'static str)> {
             1,
             "frozen,0,511",
         ),
-        ("longest play", play, waits + 1, "end,"),
+        ("longest play", play, answered, "end,4294967295,"),
+    ]
+}
+
+/// Requests that go one too deep or too far, and one that just does not.
+fn refused() -> [Named; 4] {
+    let nots = |count: usize| "not,".repeat(count) + "t";
+    let deeper = deep(DEPTH + 1, &nots(63), 0);
+    let longer = deep(DEPTH, &nots(64), 0);
+    [
         ("33 deep", format!("{deeper}make,0\n"), 1, "refused,7,2,"),
         ("65 fields", format!("{longer}make,0\n"), 1, "refused,7,2,"),
         ("65,536 letters", "a".repeat(LONGEST), 1, "refused,3,1,1"),
@@ -181,7 +189,7 @@ pub fn all() -> Vec<Request> {
             sheets.push((name, sheet));
         }
     }
-    for (name, request, lines, last) in largest() {
+    for (name, request, lines, last) in largest().into_iter().chain(refused()) {
         add(name.to_string(), Judge(request), lines, last);
     }
     for (name, sheet) in sheets {

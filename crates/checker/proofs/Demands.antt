@@ -26,7 +26,7 @@ use Rattle.promises.specs.Texts.{PromisedWhole}
 use Rattle.promises.proofs.Whole.{promised-whole}
 use Rattle.checker.specs.Entry.{answerFor, judged, answerTo}
 use Rattle.checker.specs.Demands.{Leaves, MadeRows, MadeFrozen, WhyLiquid, WhyFrozen, SameVerdict, RowsTaken, RowsRefused, Room, OfReplies}
-use Rattle.checker.proofs.Entry.{early-none}
+use Rattle.replies.proofs.Before.{early-none}
 
 -- ---- one sheet
 

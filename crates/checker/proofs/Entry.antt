@@ -9,7 +9,6 @@ use lib.Dec.{eqb}
 use borrow.Author.Tests.{eqb-true, eq-eqb, ne-eqb, le-leb, lt-leb}
 use mathlib.Core.Logic.{by-cases}
 use native.Mathlib.Decide.{decLe}
-use Rattle.bitml.specs.Lists.{_&_, ask}
 use Rattle.bitml.specs.Sheet.{Sheet}
 use Rattle.bitml.specs.Rows as bitml
 use Rattle.bitml.specs.Answers.{makingAll, Answer, refused, printed, answer}
@@ -28,12 +27,14 @@ use Rattle.promises.proofs.Whole.{promised-whole, whole-paid}
 use Rattle.sheets.specs.Ready.{Ready}
 use Rattle.rows.specs.Given.{RowsFit}
 use Rattle.replies.specs.declared.Reply.{Reply}
-use Rattle.exits.specs.Made.{flat, filled}
-use Rattle.exits.proofs.Buffer.{flat-length}
+use Rattle.buffer.specs.Filled.{flat, filled}
+use Rattle.buffer.proofs.Filled.{flat-length}
 use Rattle.lent.specs.Structs.{structs}
 use Rattle.lent.proofs.Structs.{structs-filled, structs-cleared}
-use Rattle.replies.specs.Answer.{numbersOf, Gives, leastText}
-use Rattle.checker.specs.Entry.{placesOfAll, answerForAll, judged, early, answerTo, placesOf}
+use Rattle.replies.specs.Answer.{numbersOf, Gives}
+use Rattle.replies.specs.Before.{early}
+use Rattle.replies.proofs.Before.{early-long, early-rows}
+use Rattle.checker.specs.Entry.{placesOfAll, answerForAll, judged, answerTo, placesOf}
 use Rattle.checker.specs.Lending.{numbersOfAll, Wide}
 
 -- ---- what is known of the table t and the row buffer u after reading
@@ -82,23 +83,6 @@ module _ (s t u : List ℕ) (x : Request) (read : answered x t u ≡ readRequest
   judged-by rows {n} {m} {r} {v} {b} y e g = subst (λ w. Gives (judged s rows w) n m r v b) (ap (λ z. answered z t u) (sym e) ∙ read) g
 
 -- ---- before reading
-
-module _ (bytes rows text : ℕ) where
-  pub early-long : 65536 < bytes → 1 ≡ early bytes rows text
-  unfolding early ask
-  early-long h = rw (lt-leb bytes 65536 h)
-
-  pub early-rows : bytes ≤ 65536 → rows < 512 → 7 ≡ early bytes rows text
-  unfolding early ask _&_
-  early-rows h k = rw (le-leb bytes 65536 h, lt-leb 512 rows k)
-
-  pub early-text : bytes ≤ 65536 → 512 ≤ rows → text < leastText → 7 ≡ early bytes rows text
-  unfolding early ask _&_
-  early-text h k l = rw (le-leb bytes 65536 h, le-leb 512 rows k, lt-leb leastText text l)
-
-  pub early-none : bytes ≤ 65536 → 512 ≤ rows → leastText ≤ text → 0 ≡ early bytes rows text
-  unfolding early ask _&_
-  early-none h k l = rw (le-leb bytes 65536 h, le-leb 512 rows k, le-leb leastText text l)
 
 -- an answer by what refuses early
 module _ (s : List ℕ) (rows n m : ℕ) (r : Reply) (u b : List ℕ) where

@@ -32,7 +32,8 @@ use Rattle.reading.specs.Request.{refused as unread}
 use Rattle.reading.specs.Request as part
 use Rattle.promises.specs.Texts.{PromisedWhole}
 use Rattle.promises.proofs.Whole.{promised-whole}
-use Rattle.checker.specs.Entry.{placesOfAll, answerForAll, answerFor, judged, early, answerTo, refusedIn, textIn}
+use Rattle.replies.specs.Before.{early}
+use Rattle.checker.specs.Entry.{placesOfAll, answerForAll, answerFor, judged, answerTo, refusedIn, textIn}
 
 -- ---- the line of a refused request
 

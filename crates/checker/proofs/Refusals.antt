@@ -33,7 +33,8 @@ use Rattle.plays.proofs.Ranges.{events-range}
 use Rattle.checker.specs.Demands.{Room}
 use Rattle.checker.specs.Entry.{placesOfAll, answerForAll, answerFor, judged, answerTo}
 use Rattle.checker.specs.Refusals.{Why, tooLong, shortBuffers, notRead, fewPlaces, rowsRefused, Refused, long, short, misread, few, declined, RowsNumber, Placed, OfRefusals}
-use Rattle.checker.proofs.Entry.{early-long, early-rows, early-text, all-few, all-enough}
+use Rattle.replies.proofs.Before.{early-long, early-rows, early-text}
+use Rattle.checker.proofs.Entry.{all-few, all-enough}
 use Rattle.checker.proofs.Demands.{answer-room, answer-read, formed}
 
 -- ---- what comes before reading

@@ -4,7 +4,6 @@ use mathlib.Core.Bool.{cond}
 use mathlib.Core.List.{List, [], _++_, map}
 use lib.ListN.{length, replicate}
 use lib.Dec.{leb, eqb}
-use Rattle.bitml.specs.Lists.{_&_, ask}
 use Rattle.bitml.specs.Sheet.{Sheet}
 use Rattle.tables.specs.Entries.{Entries}
 use Rattle.tables.specs.SheetOf.{sheetOf, defEntryAt}
@@ -14,7 +13,7 @@ use Rattle.bitml.specs.Answers.{refusedLine, making, makingAll, explaining, che
 use Rattle.texts.specs.Text.{lineText, linesText}
 use Rattle.lent.specs.declared.Row.{Row}
 use Rattle.lent.specs.Structs.{noRow, structOf}
-use Rattle.replies.specs.Answer.{leastText}
+use Rattle.replies.specs.Before.{early}
 use Rattle.ledger.specs.Values.{valuesOf}
 use Rattle.plays.specs.Events.{eventsOf}
 
@@ -38,11 +37,6 @@ answerFor s rows K E (play v e) = answer (playing (sheetOf K E) (valuesOf s v (d
 unfoldable pub judged : List ℕ → ℕ → Reading → Answer
 judged s rows (request K E l) = answerFor s rows K E l
 judged s rows (unread n l f) = refused n l f
-
--- "over 65,536 bytes; line 0, field 0"; "a lent row buffer under 512 (line 0, field 0)", and so a text buffer in which not every reply fits:
--- "1, then short buffers, come first"
-unfoldable pub early : ℕ → ℕ → ℕ → ℕ
-early bytes rows text = ask (leb bytes 65536) 1 (ask (leb 512 rows & leb leastText text) 7 0)
 
 -- a request of the bytes s, with places for so many rows and bytes of text
 unfoldable pub answerTo : List ℕ → ℕ → ℕ → Answer

@@ -9,6 +9,8 @@ use reading::Request;
 use reading::read;
 use reasons::why_for;
 use replies::Reply;
+use replies::TOO_SHORT;
+use replies::early;
 use replies::refuse;
 use requests::MAKEALL;
 use saving::write_sheet;
@@ -30,17 +32,13 @@ ghost use Rattle.replies.specs.Answer.{Gives, replyOf, numbersOf, bytesOf, leas
 ghost use Rattle.loading.specs.Loading.{loading, replyTo, cellsOf};
 ghost use Rattle.saving.specs.Saving as saved;
 ghost use Rattle.saving.specs.Saving.{saving};
-ghost use Rattle.checker.specs.Entry.{placesOfAll, answerForAll, judged, early, answerTo, placesOf, refusedIn, textIn};
+ghost use Rattle.checker.specs.Entry.{placesOfAll, answerForAll, judged, answerTo, placesOf, refusedIn, textIn};
 ghost use Rattle.checker.specs.Lending.{numbersOfOne, numbersOfAll, Wide, endsInAll, wantsAll};
 
-// The longest request, and the fewest rows that must be lent: for any word, and for `makeall`.
-const BYTES: usize = 65536;
-
-const ROWS: usize = 512;
-
+// The fewest rows that must be lent for `makeall`.
 const ALL_ROWS: usize = 8192;
 
-// Three numbers for each.
+// Three numbers for each of the 512 rows that any word may ask for, and for each of these.
 const NUMBERS: usize = 1536;
 
 const ALL_NUMBERS: usize = 24576;
@@ -55,27 +53,6 @@ const LINE: usize = 80;
 const SHORT: usize = 2048;
 
 const SHORT_TABLE: usize = Sheet::CELLS_AT + SHORT / 2;
-
-const TOO_LONG: usize = 1;
-
-const TOO_SHORT: usize = 7;
-
-// What refuses a request before it is read: 0 for nothing.
-fn early(bytes: usize, rows: usize, text: usize) -> usize
-    ensures { λ r. ⌜ r ≡ early bytes rows text ⌝ }
-    ensures { λ r. ⌜ (r ≡ 0 → (bytes ≤ 65536) × (512 ≤ rows) × (leastText ≤ text)) ⌝ }
-{
-    if BYTES < bytes {
-        return TOO_LONG;
-    }
-    if rows < ROWS {
-        return TOO_SHORT;
-    }
-    if text < Reply::TEXT {
-        return TOO_SHORT;
-    }
-    0
-}
 
 // `makeall` of a sheet that stands in the table, where the caller has places for so many rows.
 fn all_for(t: &[usize], room: usize, rows: &mut [usize], text: &mut [u8]) -> Reply

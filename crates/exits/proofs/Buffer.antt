@@ -1,28 +1,29 @@
--- The row buffer, and what the published rule makes. Assumes nothing.
+-- The rows that are put into the row buffer, and what the published rule makes. Assumes nothing.
 use mathlib.Core.Path.{_≡_, refl, sym, ap, ap₂, _∙_, subst}
-use Prim.Native.Nat.{ℕ, zero, suc, _+_, _-_, _*_, _≤_, _<_}
+use Prim.Native.Nat.{ℕ, suc, _+_, _-_, _*_, _≤_, _<_}
 use native.Mathlib.Omega.{arith}
 use mathlib.Core.Bool.{Bool, true, false, cond}
 use mathlib.Core.List.{List, [], _∷_, _++_, map, append-assoc, append-nil, List·Memᴰ}
-use lib.ListN.{length, getD, set, replicate, length-set, length-append, length-replicate}
+use lib.ListN.{length, getD, set, replicate, length-set, length-append}
 use lib.Dec.{eqb, ltb}
 use borrow.Author.Tests.{ne-eqb, lt-ltb, ltb-true, eqb-true, eqb-false}
 use Rattle.bitml.specs.Lists.{_&_, keep, below, upFrom, All}
 use Rattle.bitml.specs.Rows.{Row, rankOf}
-use Rattle.bitml.specs.Answers.{noRow}
 use Rattle.bitml.specs.Rule as rule
 use Rattle.bitml.specs.Rule.{make, stuck, rows, rowFor, reached, rankAt, verdict, liquid, frozen}
-use Rattle.bitml.proofs.Lists.{all-head, all-of, keep-imp, up-mem, map-cong, at-replicate}
+use Rattle.bitml.proofs.Lists.{all-head, all-of, keep-imp, up-mem, map-cong}
 use Rattle.bitml.proofs.Counting.{keep-cong, keep-append, up-split, up-one, up-end}
 use Rattle.tables.specs.Entries.{Entries}
 use Rattle.tables.specs.SheetOf.{sheetOf}
 use Rattle.tables.proofs.SheetOf.{nodes-are}
 use Rattle.reading.specs.Promises.{Promises}
+use Rattle.buffer.specs.Filled.{flat, filled}
+use Rattle.buffer.proofs.Filled.{flat-length, flat-append}
+use Rattle.reached.specs.Marks.{MarksReached}
+use Rattle.reached.proofs.Reaching.{first-reached, reached-small}
 use Rattle.exits.specs.declared.Verdict.the-variants.{Liquid, Frozen}
-use Rattle.exits.specs.Marks.{Ranks, Marked, MarksReached}
-use Rattle.exits.proofs.Queue.{flags-none}
-use Rattle.exits.specs.Made.{flat, filled, answerOf, bufferOf, stuckBy, firstOr, markedBy, rowBy, rowsBy, put}
-use Rattle.exits.proofs.Reaching.{first-reached, reached-small}
+use Rattle.exits.specs.Costs.{Ranks}
+use Rattle.exits.specs.Made.{answerOf, bufferOf, stuckBy, firstOr, markedBy, rowBy, rowsBy, put}
 
 -- ---- counting up
 
@@ -58,29 +59,9 @@ module _ (M R : List ℕ) (n : ℕ) where
 
 -- ---- the buffer
 
-pub filled-none : (L : ℕ) → replicate L 0 ≡ filled L []
-unfolding filled flat
-filled-none L = ap (λ k. replicate k 0) (let z : L ≡ L - 3 * 0 = omega arith in z)
-
 put-three : (F ys : List ℕ) (a b c : ℕ) → set (set (set (F ++ 0 ∷ 0 ∷ 0 ∷ ys) (length F) a) (suc (length F)) b) (suc (suc (length F))) c ≡ F ++ a ∷ b ∷ c ∷ ys
 put-three [] ys a b c = refl
 put-three (x ∷ F) ys a b c = ap (λ zs. x ∷ zs) (put-three F ys a b c)
-
-pub flat-length : (rs : List Row) → length (flat rs) ≡ 3 * length rs
-unfolding flat
-flat-length [] = omega arith
-flat-length (r ∷ rs) = omega (arith, flat-length rs)
-
-pub flat-append : (rs qs : List Row) → flat (rs ++ qs) ≡ flat rs ++ flat qs
-unfolding flat
-flat-append [] qs = refl
-flat-append (r ∷ rs) qs = ap (λ xs. r .node ∷ r .branch ∷ r .rank ∷ xs) (flat-append rs qs)
-
--- places of zeros
-pub flat-zeros : (k : ℕ) → flat (replicate k noRow) ≡ replicate (3 * k) 0
-unfolding flat
-flat-zeros zero = refl
-flat-zeros (suc k) = ap (λ xs. 0 ∷ 0 ∷ 0 ∷ xs) (flat-zeros k) ∙ ap (λ m. replicate m 0) (let z : suc (suc (suc (3 * k))) ≡ 3 * suc k = omega arith in z)
 
 pub filled-put : (L j : ℕ) (rs : List Row) (r : Row) → j ≡ length rs → 3 * j + 3 ≤ L → put (filled L rs) j (r .node) (r .branch) (r .rank) ≡ filled L (rs ++ (r ∷ []))
 unfolding filled flat
@@ -158,19 +139,6 @@ put-step M R B xs ys L i j j′ r h = go (eqb (getD M i 0) 0) refl
 
 -- ---- what is made
 
-pub no-marks : (length (replicate {A = ℕ} 512 0) ≡ 512) × ((m : ℕ) → _≡_ {A = ℕ} (getD (replicate 512 0) m 0) 0)
-no-marks = (length-replicate {A = ℕ} 512 0, λ m. at-replicate 512 m 0)
-
-pub marks-none : (K : ℕ) (E : Entries) → Marked K E (replicate 32 0) (replicate 32 0) 0
-marks-none K E = record {
-  long = length-replicate {A = ℕ} 32 0;
-  wide = length-replicate {A = ℕ} 32 0;
-  count = flags-none (replicate 32 0) (λ m. at-replicate 32 m 0);
-  sound = λ m h. absurd (omega (arith, at-replicate {A = ℕ} 32 m 0));
-  queued = λ m h. absurd (omega (arith, at-replicate {A = ℕ} 32 m 0));
-  back = λ i h. absurd (omega arith);
-}
-
 module _ (K : ℕ) (E : Entries) (p : ℕ) (ok : Promises K E) (M R B : List ℕ) (mr : MarksReached K E M) (rk : Ranks K E p R B 0) where
   small : (m : ℕ) → List·Memᴰ m (below (length (E .nodes))) → m < length (E .nodes)
   small m h = omega (arith, all-of (up-mem 0 (length (E .nodes))) h)
@@ -242,9 +210,3 @@ answer-liquid S rs n k e f g = rw (e, f) (ap (Liquid (length rs)) (sym g))
 pub buffer-liquid : (S : rule.Verdict) (rs : List Row) (L : ℕ) (xs : List ℕ) → S ≡ liquid rs → xs ≡ filled L rs → xs ≡ bufferOf L S
 unfolding bufferOf
 buffer-liquid S rs L xs e f = rw e f
-
-pub cleared-long : (L : ℕ) (xs : List ℕ) → xs ≡ filled L [] → length xs ≡ L
-cleared-long L xs e = ap (λ x. length x) (e ∙ sym (filled-none L)) ∙ length-replicate {A = ℕ} L 0
-
-pub cleared-is : (L : ℕ) (xs : List ℕ) → xs ≡ filled L [] → xs ≡ filled (length xs) []
-cleared-is L xs e = e ∙ ap (λ k. filled k []) (sym (cleared-long L xs e))

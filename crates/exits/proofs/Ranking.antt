@@ -17,8 +17,7 @@ use Rattle.tables.specs.SheetOf.{sheetOf, branchOf, branchCount, branchNumber}
 use Rattle.tables.proofs.SheetOf.{count-of, branch-of, nodes-are}
 use Rattle.reading.specs.Promises.{Promises}
 use Rattle.reading.proofs.Formed.{contract-in, well-formed, ranks-small}
-use Rattle.exits.specs.Costs.{ranksAt, branchCost, Ranked, chosenFrom}
-use Rattle.exits.specs.Marks.{Ranks}
+use Rattle.exits.specs.Costs.{ranksAt, branchCost, Ranked, chosenFrom, Ranks}
 
 module _ (K : ℕ) (E : Entries) (p : ℕ) (ok : Promises K E) (R B : List ℕ) where
   pub ranks-parts : (k : ℕ) → 0 < k → k ≤ length (E .nodes) → Ranks K E p R B k → (i : ℕ) → i < branchCount E (k - 1) → Ranked R (parts (branchOf E (branchNumber E (k - 1) i) .action))

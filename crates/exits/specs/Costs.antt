@@ -1,13 +1,15 @@
--- What a branch costs by an array of ranks. Assumes nothing.
+-- What a branch costs by an array of ranks, and what the work arrays hold: ranks, chosen branches. Assumes nothing.
+use mathlib.Core.Path.{_≡_}
 use Prim.Native.Nat.{ℕ, _+_, _≤_, _<_}
 use mathlib.Core.Bool.{cond}
 use mathlib.Core.List.{List, [], _∷_, map}
-use lib.ListN.{getD}
+use lib.ListN.{length, getD}
 use lib.Dec.{ltb}
 use Rattle.bitml.specs.Lists.{All, upFrom}
 use Rattle.bitml.specs.Sheet.{parts}
 use Rattle.bitml.specs.Runs.{own}
 use Rattle.bitml.specs.Rule as rule
+use Rattle.bitml.specs.Rule.{rankAt, choiceAt}
 use Rattle.tables.specs.Entries.{Entries}
 use Rattle.tables.specs.SheetOf.{sheetOf, branchOf, branchNumber}
 use Rattle.exits.specs.declared.Choice.{Choice}
@@ -35,3 +37,10 @@ asChoice c = record { branch = c .branch; rank = c .rank }
 -- The choice among the k branches of n from number i on
 unfoldable pub chosenFrom : ℕ → Entries → ℕ → ℕ → List ℕ → ℕ → ℕ → rule.Choice
 chosenFrom K E p n R i k = rule.choose (λ b. branchCost K E p n (branchNumber E n b) R) (upFrom i k)
+
+-- From node i on, R has the ranks and B the chosen branches
+pub record Ranks (K : ℕ) (E : Entries) (p : ℕ) (R B : List ℕ) (i : ℕ) : Type 0 where
+  pub long : length R ≡ 512
+  pub wide : length B ≡ 512
+  pub rank : (m : ℕ) → i ≤ m → m < length (E .nodes) → getD R m 0 ≡ rankAt (sheetOf K E) p m
+  pub branch : (m : ℕ) → i ≤ m → m < length (E .nodes) → getD B m 0 ≡ choiceAt (sheetOf K E) p m .branch

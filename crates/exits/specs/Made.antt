@@ -1,24 +1,16 @@
 -- The answer and the row buffer, by what the published rule makes. Assumes nothing.
-use Prim.Native.Nat.{ℕ, _+_, _-_, _*_}
+use Prim.Native.Nat.{ℕ, _+_, _*_}
 use mathlib.Core.Bool.{Bool}
-use mathlib.Core.List.{List, [], _∷_, _++_, map}
-use lib.ListN.{length, getD, set, replicate}
+use mathlib.Core.List.{List, [], _∷_, map}
+use lib.ListN.{length, getD, set}
 use lib.Dec.{eqb, ltb}
 use Rattle.bitml.specs.Lists.{_&_, keep, below}
 use Rattle.bitml.specs.Rows.{Row, rankOf}
 use Rattle.bitml.specs.Rule as rule
 use Rattle.bitml.specs.Rule.{liquid, frozen}
+use Rattle.buffer.specs.Filled.{flat, filled}
 use Rattle.exits.specs.declared.Verdict.{Verdict}
 use Rattle.exits.specs.declared.Verdict.the-variants.{Liquid, Frozen}
-
--- Three numbers for each row: node, branch, rank
-unfoldable pub flat : List Row → List ℕ
-flat [] = []
-flat (r ∷ R) = r .node ∷ r .branch ∷ r .rank ∷ flat R
-
--- "The row buffer holds the rows .. and is zero past them": a buffer of n numbers
-unfoldable pub filled : ℕ → List Row → List ℕ
-filled n R = flat R ++ replicate (n - 3 * length R) 0
 
 -- "`liquid` has participant, rows, rank of node 0; `frozen` has participant, node"
 unfoldable pub answerOf : rule.Verdict → Verdict

@@ -9,7 +9,7 @@ use lib.Seq.{length-take-le, take-suc, take-length, drop-cons, drop-length, set-
 use Rattle.bitml.specs.Lists.{below}
 use Rattle.bitml.specs.Rows as bitml
 use Rattle.bitml.proofs.Lists.{at-replicate, getD-up, length-up}
-use Rattle.exits.specs.Made.{flat, filled}
+use Rattle.buffer.specs.Filled.{flat, filled}
 use Rattle.lent.specs.declared.Row.{Row}
 use Rattle.lent.specs.Structs.{noRow, structOf, structAt, structs}
 

@@ -9,8 +9,8 @@ use Rattle.tables.specs.Entries.{Entries, firstOf, nodeIn, branchIn, defIn, lis
 use Rattle.tables.proofs.Laws.{firstOf-length}
 use Rattle.reading.specs.Promises.{Sizes}
 use Rattle.reading.proofs.Sizes.{sizes-within}
-use Rattle.exits.specs.Made.{filled}
-use Rattle.exits.proofs.Buffer.{filled-none}
+use Rattle.buffer.specs.Filled.{filled}
+use Rattle.buffer.proofs.Filled.{filled-none}
 use Rattle.loading.proofs.Sections.{Section, flat-long, part-is, holds, nodes-section, branches-section, defs-section, numbers-part, numbers-held}
 use Rattle.loading.specs.Table.{padded, flat, nodeCells, branchCells, defCells, headerCells, sectionCells, tableOf}
 

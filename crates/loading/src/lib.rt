@@ -1,5 +1,5 @@
 // A text of line 1 and `def` lines, read into a table that the caller lends.
-use exits::clear;
+use buffer::clear;
 use fields::Got;
 use lines::sheet;
 use places::place_of;

@@ -1,9 +1,9 @@
 // `play`: the events on the program's ledger, each with its answer.
+use buffer::clear as clear_numbers;
 use counts::Counts;
 use counts::live;
 use events::Event;
 use events::event_at;
-use exits::clear as clear_numbers;
 use ledger::Ledger;
 use pages::CELLS;
 use pages::PAID;

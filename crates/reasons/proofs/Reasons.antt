@@ -24,7 +24,8 @@ use Rattle.tables.specs.SheetOf.{defEntryAt, branchCount, branchNumber, branchO
 use Rattle.tables.proofs.SheetOf.{root-is, nodes-are, count-of, branch-of}
 use Rattle.reading.proofs.Formed.{well-formed}
 use Rattle.sheets.specs.Ready.{Ready}
-use Rattle.exits.specs.Made.{filled, answerOf, bufferOf}
+use Rattle.buffer.specs.Filled.{filled}
+use Rattle.exits.specs.Made.{answerOf, bufferOf}
 use Rattle.exits.specs.declared.Verdict.the-variants.{Liquid}
 use Rattle.exits.proofs.Told.{root-first, told-liquid}
 use Rattle.ways.specs.declared.Turn.{Turn}

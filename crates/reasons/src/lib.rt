@@ -1,9 +1,9 @@
 // `why` of a sheet that stands in the table, with its text.
+use buffer::clear as clear_numbers;
 use exits::Verdict;
-use exits::clear as clear_numbers;
 use exits::make;
-use exits::reach;
 use owning::bar;
+use reached::reach;
 use replies::Reply;
 use replies::answered;
 use sheets::INDEX;

@@ -1,10 +1,22 @@
-// The value that answers a request, and the buffers after a refusal.
-use exits::clear as clear_numbers;
+// The value that answers a request, what refuses one before it is read, and the buffers after a refusal.
+use buffer::clear as clear_numbers;
 use texts::clear;
 ghost use mathlib.Core.Path.{_≡_};
+ghost use Prim.Native.Nat.{_≤_};
 ghost use lib.ListN.{length};
 ghost use Rattle.bitml.specs.Answers.{refused};
-ghost use Rattle.replies.specs.Answer.{Gives};
+ghost use Rattle.replies.specs.Answer.{Gives, leastText};
+ghost use Rattle.replies.specs.Before.{early};
+
+// The longest request, and the fewest rows that must be lent.
+const BYTES: usize = 65536;
+
+const ROWS: usize = 512;
+
+// The numbers of their refusals.
+const TOO_LONG: usize = 1;
+
+pub const TOO_SHORT: usize = 7;
 
 // Refused with number, line and field; or, where the number is 0, answered with so many bytes of text.
 #[repr(C)]
@@ -57,4 +69,21 @@ pub fn refuse(
     clear_numbers(rows);
     clear(text);
     declined(number, line, field)
+}
+
+// What refuses a request before it is read: 0 for nothing.
+pub fn early(bytes: usize, rows: usize, text: usize) -> usize
+    ensures { λ r. ⌜ r ≡ early bytes rows text ⌝ }
+    ensures { λ r. ⌜ (r ≡ 0 → (bytes ≤ 65536) × (512 ≤ rows) × (leastText ≤ text)) ⌝ }
+{
+    if BYTES < bytes {
+        return TOO_LONG;
+    }
+    if rows < ROWS {
+        return TOO_SHORT;
+    }
+    if text < Reply::TEXT {
+        return TOO_SHORT;
+    }
+    0
 }

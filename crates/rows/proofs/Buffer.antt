@@ -9,14 +9,14 @@ use lib.Seq.{take-add, take-append-seam}
 use lib.Dec.{eqb}
 use Rattle.bitml.specs.Rows as bitml
 use Rattle.bitml.specs.Rows.{rankOf}
-use Rattle.exits.specs.Made.{flat, filled}
-use Rattle.exits.proofs.Buffer.{flat-length, flat-append}
+use Rattle.buffer.specs.Filled.{flat, filled}
+use Rattle.buffer.proofs.Filled.{flat-length, flat-append}
 use Rattle.requests.specs.Rows.{row, rowIn, rowsOf}
 use Rattle.sheets.proofs.Indexing.{rest-length}
 use Rattle.rows.specs.Given.{answerOf, keptOf, bufferOf}
 use Rattle.rows.specs.declared.Checked.{Checked}
 use Rattle.rows.specs.declared.Checked.the-variants.{Liquid, Refused}
-use Rattle.rows.proofs.Ranks.{drop-one}
+use Rattle.order.proofs.Ranks.{drop-one}
 use Rattle.requests.proofs.Laws.{rows-none, rows-next, rows-length}
 
 take-three : (u : List ℕ) (k : ℕ) → k + 3 ≤ length u → take (k + 3) u ≡ take k u ++ (getD u k 0 ∷ getD u (k + 1) 0 ∷ getD u (k + 2) 0 ∷ [])

@@ -20,10 +20,12 @@ use Rattle.reading.specs.Promises.{Promises}
 use Rattle.reading.proofs.Formed.{parts-are-nodes}
 use Rattle.requests.specs.Rows.{rowIn, rowsOf}
 use Rattle.sheets.specs.Ready.{Ready}
-use Rattle.rows.specs.Given.{RowsFit, Known, hasBy, nextBy, rankSum, faultBy, orderFault, answerOf}
+use Rattle.order.specs.Nodes.{Known, hasBy, orderFault}
+use Rattle.order.proofs.Ranks.{drop-one, rows-from, rows-end, known-has}
+use Rattle.order.proofs.Order.{order-then}
+use Rattle.rows.specs.Given.{RowsFit, nextBy, rankSum, faultBy, answerOf}
 use Rattle.rows.specs.declared.Checked.the-variants.{Liquid, Refused}
-use Rattle.rows.proofs.Ranks.{drop-one, rows-from, rows-end, row-branch, known-has}
-use Rattle.rows.proofs.Order.{order-then}
+use Rattle.rows.proofs.Promised.{row-branch}
 
 -- ---- loops
 

@@ -1,4 +1,3 @@
-pub mod Ranks
-pub mod Order
+pub mod Promised
 pub mod Judged
 pub mod Buffer

@@ -1,19 +1,18 @@
--- Rows as given, in a buffer of numbers, and the array of their ranks. Assumes nothing.
-use mathlib.Core.Path.{_≡_}
+-- Rows as given, in a buffer of numbers, judged by the array of their ranks. Assumes nothing.
 use Prim.Native.Nat.{ℕ, suc, _*_, _≤_, _<_}
-use mathlib.Core.Bool.{Bool, not, cond}
+use mathlib.Core.Bool.{Bool, cond}
 use mathlib.Core.List.{List, [], map}
 use lib.ListN.{length, getD}
 use lib.Dec.{leb, eqb}
-use Rattle.bitml.specs.Lists.{ask, sum, every, All}
+use Rattle.bitml.specs.Lists.{ask, sum, every}
 use Rattle.bitml.specs.Runs.{own, next}
 use Rattle.bitml.specs.Rows as bitml
-use Rattle.bitml.specs.Rows.{Row, rankOf, orElse, repeated, falling}
+use Rattle.bitml.specs.Rows.{Row, rankOf}
 use Rattle.tables.specs.Entries.{Entries, held}
 use Rattle.tables.specs.SheetOf.{sheetOf, branchOf, branchNumber, branchNumbers, partNumbers}
-use Rattle.requests.specs.Rows.{RowFits, countIn, rowIn, mostRank, mostRows}
-use Rattle.exits.specs.Made.{filled}
-use Rattle.rows.specs.declared.Fault.{Fault}
+use Rattle.requests.specs.Rows.{RowFits, countIn, rowIn, mostRows}
+use Rattle.buffer.specs.Filled.{filled}
+use Rattle.order.specs.Nodes.{hasBy}
 use Rattle.rows.specs.declared.Checked.{Checked}
 use Rattle.rows.specs.declared.Checked.the-variants.{Liquid, Refused}
 
@@ -23,26 +22,7 @@ pub record RowsFit (t u : List ℕ) (n : ℕ) : Type 0 where
   pub long : 3 * n ≤ length u
   pub each : (i : ℕ) → i < n → RowFits (countIn t) (length (held t .nodes)) (rowIn u i)
 
--- The same by no table
-pub record RowsSmall (u : List ℕ) (n : ℕ) : Type 0 where
-  pub few : n ≤ mostRows
-  pub long : 3 * n ≤ length u
-  pub node : (i : ℕ) → i < n → rowIn u i .node < 512
-  pub some : (i : ℕ) → i < n → 0 < rowIn u i .rank
-  pub most : (i : ℕ) → i < n → rowIn u i .rank ≤ mostRank
-
 -- ---- by the array A of ranks
-
--- A has the rank of each node by the rows R, and 0 where it has no row
-pub record Known (R : List Row) (A : List ℕ) : Type 0 where
-  pub long : length A ≡ 512
-  pub rank : (m : ℕ) → getD A m 0 ≡ rankOf R m
-  pub some : All (λ r. 0 < r .rank) R
-  pub most : (m : ℕ) → getD A m 0 ≤ mostRank
-
--- Node m has a row
-unfoldable pub hasBy : List ℕ → ℕ → Bool
-hasBy A m = not (eqb (getD A m 0) 0)
 
 -- "all contracts of .. branches, and the roots they renew as, have rows": of branch entry b
 unfoldable pub nextBy : ℕ → Entries → List ℕ → ℕ → Bool
@@ -60,17 +40,6 @@ faultBy K E p A r =
     0))
 
 -- ---- the answer
-
-abbrev pub asFault : Fault → bitml.Fault
-asFault f = record { number = f .number; place = f .place }
-
--- "21 when a row's node is below that of the row before it": the row in place i
-abbrev pub fallAt : ℕ → bitml.Fault
-fallAt i = record { number = 21; place = i }
-
--- 10 over all rows, then 21 over all rows
-unfoldable pub orderFault : List Row → bitml.Fault
-orderFault R = orElse (repeated 1 [] R) (falling 1 0 R)
 
 -- "`check` prints the `liquid` line or a refusal"; "`liquid` has participant, rows, rank of node 0"
 unfoldable pub answerOf : List Row → bitml.Fault → Checked

@@ -1,5 +1,7 @@
 // Rows that anyone gives are accepted, or the first fault is found.
-use exits::clear;
+use buffer::clear;
+use order::Fault;
+use order::index;
 use owning::own;
 use sheets::branch_arg;
 use sheets::branch_count;
@@ -12,91 +14,30 @@ use tables::Action;
 use tables::Sheet;
 ghost use mathlib.Core.Path.{_≡_};
 ghost use mathlib.Core.List.{[]};
-ghost use Prim.Native.Nat.{ℕ, suc, _+_, _≤_, _<_};
-ghost use lib.ListN.{length, getD, drop};
+ghost use Prim.Native.Nat.{ℕ, suc, _≤_, _<_};
+ghost use lib.ListN.{length, getD};
 ghost use Rattle.bitml.specs.Lists.{every};
-ghost use Rattle.bitml.specs.Rows.{repeated, orElse, faulty};
+ghost use Rattle.bitml.specs.Rows.{faulty};
 ghost use Rattle.bitml.specs.Rows as bitml;
 ghost use Rattle.tables.specs.Entries.{held, people};
 ghost use Rattle.tables.specs.SheetOf.{branchNumbers, branchCount, partNumbers, sheetIn};
 ghost use Rattle.requests.specs.Rows.{mostRank, mostRows, row, rowsOf};
 ghost use Rattle.sheets.specs.Ready.{Ready, Indexed};
-ghost use Rattle.rows.specs.Given.{RowsFit, RowsSmall, Known, hasBy, nextBy, rankSum, faultBy, asFault, fallAt, orderFault, answerOf, keptOf, bufferOf};
+ghost use Rattle.order.specs.Nodes.{Known, hasBy, asFault};
+ghost use Rattle.rows.specs.Given.{RowsFit, nextBy, rankSum, faultBy, answerOf, keptOf, bufferOf};
 
-// The numbers of the refusals: the node has a row already, a needed row is missing, the branch is not own, the rank is too low, the
-// node is below that of the row before.
-const REPEATED: usize = 10;
-
+// The numbers of the refusals: a needed row is missing, the branch is not own, the rank is too low.
 const MISSING: usize = 11;
 
 const NOT_OWN: usize = 12;
 
 const TOO_LOW: usize = 13;
 
-const OUT_OF_ORDER: usize = 21;
-
-// A refusal's number and its row's place, from 1, or 0 for the line of `check`. The number 0 is for none.
-struct Fault {
-    number: usize,
-    place: usize,
-}
-
 pub enum Checked {
     // how many rows, and the rank of node 0
     Liquid(usize, usize),
     // the refusal's number, and its row's place
     Refused(usize, usize),
-}
-
-// Row `from` is the first that is not above the one before it: the first row from there on whose node an earlier row has; where there
-// is none, that row is out of order.
-fn unordered(rows: &[usize], n: usize, from: usize, ranks: &mut [usize; Sheet::NODES]) -> Fault
-    requires { ⌜ RowsSmall (now rows) n ⌝ }
-    requires { ⌜ from < n ⌝ }
-    requires { ⌜ Known (rowsOf from (now rows)) (now ranks) ⌝ }
-    ensures { λ r. ⌜ asFault r ≡ orElse (repeated (from + 1) (rowsOf from (now (rows .entry))) (drop from (rowsOf n (now (rows .entry))))) (fallAt (from + 1)) ⌝ }
-{
-    let mut j = from;
-    while j < n {
-        let m = rows[3 * j];
-        if ranks[m] != 0 {
-            return Fault {
-                number: REPEATED,
-                place: j + 1,
-            };
-        }
-        ranks[m] = rows[3 * j + 2];
-        j += 1;
-    }
-    Fault {
-        number: OUT_OF_ORDER,
-        place: from + 1,
-    }
-}
-
-// The first fault of the rows' nodes: two of one, else their order. Where there is none, the array has the ranks by node. A node above
-// all before it has no row yet, so that rows in order are not looked up.
-fn index(rows: &[usize], n: usize, ranks: &mut [usize; Sheet::NODES]) -> Fault
-    requires { ⌜ RowsSmall (now rows) n ⌝ }
-    requires { ⌜ Known [] (now ranks) ⌝ }
-    ensures { λ r. ⌜ asFault r ≡ orderFault (rowsOf n (now (rows .entry))) ⌝ }
-    ensures { λ r. ⌜ (r .number ≡ 0 → Known (rowsOf n (now (rows .entry))) (now (ranks .exit))) ⌝ }
-{
-    let mut above = 0;
-    let mut i = 0;
-    while i < n {
-        let m = rows[3 * i];
-        if m < above {
-            return unordered(rows, n, i, ranks);
-        }
-        ranks[m] = rows[3 * i + 2];
-        above = m + 1;
-        i += 1;
-    }
-    Fault {
-        number: 0,
-        place: 0,
-    }
 }
 
 // All parts of branch b have rows.

@@ -5,7 +5,7 @@ ghost use mathlib.Core.Path.{_≡_};
 ghost use Prim.Native.Nat.{_≤_, _<_};
 ghost use lib.ListN.{length, getD};
 ghost use Rattle.tables.specs.Entries.{held, people};
-ghost use Rattle.tables.specs.SheetOf.{nodeEntryAt, branchEntryAt, defEntryAt, listedAt, cellAt, branchCount, branchNumber, partCount, partNumber, depositOf, ownerOf};
+ghost use Rattle.tables.specs.SheetOf.{nodeEntryAt, branchEntryAt, defEntryAt, listedAt, branchCount, branchNumber, partCount, partNumber, depositOf, ownerOf};
 ghost use Rattle.sheets.specs.Ready.{Ready, Indexed, namers, Named};
 
 // Where the numbers of the first node stand in a table, of the first branch, of the first definition.
@@ -211,14 +211,6 @@ pub fn listed_at(t: &[usize], i: usize) -> usize
     ensures { λ r. ⌜ r ≡ listedAt (held (now (t .entry))) i ⌝ }
 {
     t[Sheet::LISTED_AT + i]
-}
-
-pub fn cell_at(t: &[usize], i: usize) -> usize
-    requires { ⌜ Ready (now t) ⌝ }
-    requires { ⌜ i < length (held (now t) .cells) ⌝ }
-    ensures { λ r. ⌜ r ≡ cellAt (held (now (t .entry))) i ⌝ }
-{
-    t[Sheet::CELLS_AT + i]
 }
 
 // The deposit of participant p in definition d.

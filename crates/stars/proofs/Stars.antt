@@ -25,7 +25,8 @@ use Rattle.bitml.specs.Rule as rule
 use Rattle.texts.specs.Text as text
 use Rattle.ledger.specs.Values as values
 use Rattle.plays.specs.Events as played-events
-use Rattle.checker.specs.Entry.{answerForAll, answerFor, judged, early, answerTo, refusedIn, textIn}
+use Rattle.replies.specs.Before.{early}
+use Rattle.checker.specs.Entry.{answerForAll, answerFor, judged, answerTo, refusedIn, textIn}
 use Rattle.stars.specs.Stars.{T, M, D, R, printedFor, cases, Stars}
 
 pub stars-hold : Stars

@@ -12,8 +12,9 @@ use Rattle.bitml.specs.Rule.{make}
 use Rattle.bitml.specs.Answers.{Line, printed, noRow, padded, madeLines, madeRows, makingAll, madeForAll, answer}
 use Rattle.bitml.proofs.Lists.{gather-length, length-up, all-mem}
 use Rattle.bitml.proofs.Counting.{gather-up}
-use Rattle.exits.specs.Made.{flat, filled, bufferOf}
-use Rattle.exits.proofs.Buffer.{flat-length, flat-append, flat-zeros, filled-none}
+use Rattle.buffer.specs.Filled.{flat, filled}
+use Rattle.buffer.proofs.Filled.{flat-length, flat-append, flat-zeros, filled-none}
+use Rattle.exits.specs.Made.{bufferOf}
 use Rattle.texts.specs.Text.{linesText}
 use Rattle.texts.specs.Wrote.{Wrote}
 use Rattle.texts.proofs.Texts.{lines-append}

@@ -22,7 +22,8 @@ use Rattle.reading.specs.Promises.{Promises}
 use Rattle.reading.proofs.Formed.{well-formed, ranks-small}
 use Rattle.requests.specs.Rows.{RowFits, rowsOf}
 use Rattle.sheets.specs.Ready.{Ready}
-use Rattle.exits.specs.Made.{filled, answerOf, bufferOf}
+use Rattle.buffer.specs.Filled.{filled}
+use Rattle.exits.specs.Made.{answerOf, bufferOf}
 use Rattle.exits.specs.declared.Verdict.the-variants.{Liquid, Frozen}
 use Rattle.exits.proofs.Told.{line-is, told-liquid, told-frozen}
 use Rattle.rows.specs.Given.{answerOf as answerOfRows, bufferOf as bufferOfRows}

@@ -6,7 +6,7 @@ use Rattle.bitml.specs.Lists.{gather, below}
 use Rattle.bitml.specs.Sheet.{Sheet}
 use Rattle.bitml.specs.Rule.{make}
 use Rattle.bitml.specs.Answers.{madeLines, madeRows, padded}
-use Rattle.exits.specs.Made.{flat}
+use Rattle.buffer.specs.Filled.{flat}
 use Rattle.texts.specs.Text.{linesText}
 
 -- The lines of one verdict have at most so many bytes: 512 rows of 16, and a last line of 80

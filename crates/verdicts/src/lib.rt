@@ -1,8 +1,8 @@
 // `make`, `makeall` and `check` of a sheet that stands in the table, with their text.
+use buffer::clear as clear_numbers;
 use exits::Verdict;
-use exits::clear as clear_numbers;
 use exits::make;
-use exits::reach;
+use reached::reach;
 use replies::Reply;
 use replies::answered;
 use replies::declined;
@@ -26,7 +26,7 @@ ghost use Rattle.tables.specs.Entries.{held, people};
 ghost use Rattle.tables.specs.SheetOf.{sheetIn};
 ghost use Rattle.requests.specs.Rows.{rowsOf};
 ghost use Rattle.sheets.specs.Ready.{Ready, Indexed};
-ghost use Rattle.exits.specs.Marks.{MarksReached};
+ghost use Rattle.reached.specs.Marks.{MarksReached};
 ghost use Rattle.exits.specs.Made.{bufferOf};
 ghost use Rattle.rows.specs.Given.{RowsFit};
 ghost use Rattle.texts.specs.Text.{linesText};

@@ -19,8 +19,8 @@ use Rattle.reading.specs.Promises.{Promises}
 use Rattle.reading.proofs.Formed.{part-in, in-parts, branch-place, parts-are-nodes}
 use Rattle.sheets.specs.Ready.{namers}
 use Rattle.sheets.proofs.Indexing.{namer-place}
-use Rattle.exits.proofs.Queue.{flags-none}
-use Rattle.exits.proofs.Reaching.{parts-next, next-parts}
+use Rattle.reached.proofs.Queue.{flags-none}
+use Rattle.reached.proofs.Reaching.{parts-next, next-parts}
 use Rattle.ways.specs.Distances.{Distances}
 use Rattle.ways.specs.Marks.{Marked, Close, Grew, Before, Led, LedUpTo, RenewerLed, RenewersLed}
 use Rattle.ways.proofs.Queue.{grew-mark}

@@ -15,8 +15,8 @@ use Rattle.bitml.proofs.Counting.{at-store}
 use Rattle.tables.specs.Entries.{Entries}
 use Rattle.tables.specs.SheetOf.{sheetOf}
 use Rattle.reading.specs.Promises.{Promises}
-use Rattle.exits.specs.Marks.{flag}
-use Rattle.exits.proofs.Queue.{flags-le, room}
+use Rattle.reached.specs.Marks.{flag}
+use Rattle.reached.proofs.Queue.{flags-le, room}
 use Rattle.ways.specs.Marks.{Marked, Close, Grew}
 
 pub tail-le : {K : ℕ} {E : Entries} {g : ℕ} {D Q : List ℕ} {tail : ℕ} → Marked K E g D Q tail → tail ≤ 512

@@ -9,7 +9,7 @@ use Rattle.bitml.specs.Lists.{sum}
 use Rattle.bitml.specs.Why.{near}
 use Rattle.tables.specs.Entries.{Entries}
 use Rattle.tables.specs.SheetOf.{sheetOf, nodeEntryAt, branchEntryAt, defEntryAt}
-use Rattle.exits.specs.Marks.{flag}
+use Rattle.reached.specs.Marks.{flag}
 
 -- D marks `tail` nodes from which steps lead to node g, each with one more than their number. They stand in the queue Q, those with lower
 -- marks first

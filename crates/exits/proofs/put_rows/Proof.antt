@@ -3,7 +3,8 @@ use Prim.Native.Nat.{_≤_, _-_}
 use native.Mathlib.Omega.{arith}
 use mathlib.Core.Path.{_≡_, ap, _∙_}
 use lib.ListN.{length}
-use Rattle.exits.specs.Made.{filled, rowsBy}
+use Rattle.buffer.specs.Filled.{filled}
+use Rattle.exits.specs.Made.{rowsBy}
 use Rattle.exits.proofs.Buffer.{Put, put-none, put-step}
 use Rattle.exits.proofs.put_rows.Statement.{statement}
 use Rattle.exits.proofs.put_rows.Tie as tie

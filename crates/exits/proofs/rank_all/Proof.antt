@@ -3,8 +3,7 @@ use Prim.Native.Nat.{_≤_}
 use native.Mathlib.Omega.{arith}
 use mathlib.Core.Path.{_≡_, subst}
 use lib.ListN.{length}
-use Rattle.exits.specs.Costs.{asChoice}
-use Rattle.exits.specs.Marks.{Ranks}
+use Rattle.exits.specs.Costs.{asChoice, Ranks}
 use Rattle.exits.proofs.Ranking.{ranks-parts, ranks-set, ranks-none}
 use Rattle.tables.specs.Entries.{held, people}
 use Rattle.exits.proofs.rank_all.Statement.{statement}

@@ -1,6 +1,6 @@
 use mathlib.Core.Path.{sym, _∙_}
 use lib.ListN.{length}
-use Rattle.exits.proofs.Buffer.{filled-none}
+use Rattle.buffer.proofs.Filled.{filled-none}
 use borrow.Author.Needs.{needs}
 use Rattle.loading.proofs.refuse.Statement.{statement}
 use Rattle.loading.proofs.refuse.Tie as tie

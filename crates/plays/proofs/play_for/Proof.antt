@@ -1,4 +1,4 @@
-use Rattle.exits.proofs.Buffer.{cleared-long}
+use Rattle.buffer.proofs.Filled.{cleared-long}
 use Prim.Native.Nat.{_+_}
 use mathlib.Core.Path.{refl, sym, ap, _∙_}
 use native.Mathlib.Omega.{arith}

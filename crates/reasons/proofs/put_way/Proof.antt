@@ -9,7 +9,7 @@ use Rattle.bitml.specs.Answers.{stepLine}
 use Rattle.tables.specs.Entries.{held, people}
 use Rattle.tables.specs.SheetOf.{sheetIn}
 use Rattle.tables.proofs.SheetOf.{nodes-are}
-use Rattle.exits.proofs.Buffer.{no-marks}
+use Rattle.reached.proofs.Queue.{no-marks}
 use Rattle.texts.specs.Text.{linesText}
 use Rattle.texts.proofs.Lengths.{step-room}
 use Rattle.texts.proofs.Coming.{Coming}

@@ -1,6 +1,6 @@
 use mathlib.Core.Path.{refl, sym, _∙_}
 use native.Mathlib.Omega.{arith}
-use Rattle.exits.proofs.Buffer.{no-marks}
+use Rattle.reached.proofs.Queue.{no-marks}
 use Rattle.replies.proofs.Giving.{gives-as, gives-long}
 use Rattle.exits.proofs.Told.{told-frozen}
 use Rattle.reasons.proofs.Reasons.{wrote-liquid, why-gives, frozen-gives}

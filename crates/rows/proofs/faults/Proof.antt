@@ -6,7 +6,7 @@ use mathlib.Core.Path.{_≡_, refl, sym, _∙_}
 use lib.ListN.{drop}
 use Rattle.bitml.specs.Rows.{faulty}
 use Rattle.tables.specs.SheetOf.{sheetIn}
-use Rattle.rows.proofs.Ranks.{row-branch}
+use Rattle.rows.proofs.Promised.{row-branch}
 use Rattle.rows.proofs.Judged.{row-fault, faults-hit, faults-miss, faults-end}
 use Rattle.rows.proofs.faults.Statement.{statement}
 use Rattle.rows.proofs.faults.Tie as tie

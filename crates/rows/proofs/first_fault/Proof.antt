@@ -5,8 +5,8 @@ use lib.ListN.{getD}
 use Rattle.bitml.specs.Rows.{Fault}
 use Rattle.tables.specs.Entries.{held, people}
 use Rattle.tables.specs.SheetOf.{sheetIn}
-use Rattle.rows.specs.Given.{asFault}
-use Rattle.rows.proofs.Ranks.{rows-small}
+use Rattle.order.specs.Nodes.{asFault}
+use Rattle.rows.proofs.Promised.{rows-small}
 use Rattle.rows.proofs.Judged.{check-order, check-root, check-rest}
 use borrow.Author.Needs.{needs}
 use Rattle.rows.proofs.first_fault.Statement.{statement}

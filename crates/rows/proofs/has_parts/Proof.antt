@@ -7,7 +7,7 @@ use Rattle.bitml.specs.Lists.{every}
 use Rattle.tables.specs.Entries.{held}
 use Rattle.tables.specs.SheetOf.{partNumbers, partNumber, partCount}
 use Rattle.tables.proofs.SheetOf.{part-small}
-use Rattle.rows.specs.Given.{hasBy}
+use Rattle.order.specs.Nodes.{hasBy}
 use Rattle.rows.proofs.Judged.{every-no, every-yes, every-end, has-no, has-yes}
 use Rattle.rows.proofs.has_parts.Statement.{statement}
 use Rattle.rows.proofs.has_parts.Tie as tie

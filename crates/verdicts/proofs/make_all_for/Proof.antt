@@ -1,6 +1,6 @@
 use native.Mathlib.Omega.{arith}
 use mathlib.Core.Path.{refl}
-use Rattle.exits.proofs.Buffer.{no-marks}
+use Rattle.reached.proofs.Queue.{no-marks}
 use Rattle.replies.proofs.Giving.{gives-as}
 use Rattle.tables.specs.SheetOf.{sheetOf}
 use Rattle.verdicts.proofs.Verdicts.{made-few}

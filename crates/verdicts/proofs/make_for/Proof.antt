@@ -1,5 +1,5 @@
 use native.Mathlib.Omega.{arith}
-use Rattle.exits.proofs.Buffer.{no-marks}
+use Rattle.reached.proofs.Queue.{no-marks}
 use Rattle.replies.proofs.Giving.{gives-as}
 use Rattle.exits.proofs.Told.{root-first}
 use Rattle.verdicts.proofs.Verdicts.{make-gives}

@@ -1,5 +1,5 @@
 use native.Mathlib.Omega.{arith}
-use Rattle.exits.proofs.Queue.{positive}
+use Rattle.reached.proofs.Queue.{positive}
 use Rattle.ways.proofs.Queue.{tail-le, visit-room, visit-grew, visit-close, visit-marked, visit-more, grew-same}
 use borrow.Author.Needs.{needs}
 use Rattle.ways.proofs.visit.Statement.{statement}

@@ -39,7 +39,7 @@ const PAGE: usize = 4096;
 /// Linux's flag of an open file that never waits.
 const O_NONBLOCK: i32 = 0o4000;
 /// A program that does not end fails the test.
-const PATIENCE: Duration = Duration::from_secs(60);
+const PATIENCE: Duration = Duration::from_secs(300);
 /// Between pieces, so that mostly the program waits for the next; no answer hangs on it.
 const PAUSE: Duration = Duration::from_millis(20);
 const OK: &str = "exit status: 0";

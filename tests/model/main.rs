@@ -33,7 +33,7 @@ use std::time::{Duration, Instant};
 
 use cases::Case;
 use model::sheets::{read_sheet, write_sheet};
-use model::{Action, Condition, Few, LastPart, Reply, Row, Sheet, Term};
+use model::{Action, Condition, Few, LastPart, Place, Reply, Row, Sheet, Term};
 
 /// Counts the checks and keeps those that failed.
 #[derive(Default)]
@@ -44,16 +44,30 @@ struct Checks {
     slowest: (Duration, String),
 }
 
-/// A model that takes the square of a request would need seconds for the longest; the wide margin keeps a
-/// busy machine out of the verdict.
+/// A model that takes the square of a request would need seconds for the longest; the wide margin, and a
+/// second look, keep a busy machine out of the verdict.
 const SLOW: Duration = Duration::from_millis(200);
+
+/// The model's answer, the rows, and the least time of those that it took.
+fn timed(request: &[u8]) -> (Reply, Vec<Place>, Duration) {
+    let start = Instant::now();
+    let (reply, rows) = model::judge(request);
+    let mut least = start.elapsed();
+    for _ in 0..10 {
+        if least < SLOW {
+            break;
+        }
+        let start = Instant::now();
+        let _ = model::judge(request);
+        least = least.min(start.elapsed());
+    }
+    (reply, rows, least)
+}
 
 impl Checks {
     fn expect(&mut self, Case { name, request, due }: &Case) {
         self.run += 1;
-        let start = Instant::now();
-        let (reply, rows) = model::judge(request);
-        let time = start.elapsed();
+        let (reply, rows, time) = timed(request);
         if time > self.slowest.0 {
             self.slowest = (time, name.clone());
         }

@@ -464,7 +464,7 @@ fn most_renewals() -> String {
 /// Sheets on which `why` has the most to do, and how many lines it then prints.
 fn sheets_to_explain() -> [(&'static str, String, usize); 2] {
     [
-        ("longest way", longest_way(), 1 + 511 + 2),
+        ("longest way", longest_way(), 1 + (model::NODES - 1) + 2),
         ("most renewals", most_renewals(), 1 + 63 + 16),
     ]
 }
@@ -514,9 +514,9 @@ fn requests() -> Vec<(String, usize, String)> {
     let sheet = largest_sheet();
     let make = format!("{sheet}make,0\n");
     let rows = made_rows(&make);
-    assert_eq!(rows.lines().count(), model::ROWS);
+    assert_eq!(rows.lines().count(), model::NODES);
     let makeall = format!("{sheet}makeall\n");
-    assert_eq!(lines(makeall.as_bytes()).0, 16 * (model::ROWS + 1));
+    assert_eq!(lines(makeall.as_bytes()).0, 16 * (model::NODES + 1));
     let signed = Largest::sheet(["32768", "16384"], 0, 0);
     let smallest = format!("{}make,0\n", text("T"));
     let (few, all) = (library::ROWS, library::ALL_ROWS);
@@ -647,8 +647,8 @@ impl Buffers<Place> {
 
 impl PartialEq<Buffers<Place>> for Buffers<Row> {
     fn eq(&self, other: &Buffers<Place>) -> bool {
-        let numbers = |row: &Row| (row.node as u64, row.branch as u64, row.rank as u64);
-        self.text == other.text && self.rows.iter().map(numbers).eq(other.rows.iter().copied())
+        let rows = self.rows.iter().map(Row::numbers);
+        self.text == other.text && rows.eq(other.rows.iter().copied())
     }
 }
 

@@ -40,9 +40,12 @@ extern "C" {
     ) -> Reply;
 }
 
-/// Rows of one participant, rows of all that `makeall` answers for, and bytes of text.
+// As include/hurkoxel.h has them: the longest request, rows of one participant, rows of as many as `makeall`
+// answers for, and bytes of text.
+const REQUEST_BYTES: u64 = 65_536;
 const ROWS: usize = 512;
-const ALL_ROWS: usize = 8_192;
+const PARTICIPANTS: usize = 16;
+const ALL_ROWS: usize = ROWS * PARTICIPANTS;
 const TEXT_BYTES: usize = 180_224;
 
 /// What is lent for every request.
@@ -89,7 +92,7 @@ fn report_rows(places: &[Row]) {
 fn load(name: &str) -> std::io::Result<Vec<u8>> {
     let mut request = Vec::new();
     std::fs::File::open(name)?
-        .take(65_537)
+        .take(REQUEST_BYTES + 1)
         .read_to_end(&mut request)?;
     Ok(request)
 }

@@ -21,13 +21,13 @@ extern "C" {
 #define HURKOXEL_REQUEST_BYTES 65536
 #define HURKOXEL_ROWS 512
 #define HURKOXEL_TEXT_BYTES 180224
-/* The shortest row buffer for a `makeall`, in which the rows of participant p begin at HURKOXEL_ROWS * p. Any other word
- * is served by HURKOXEL_ROWS. */
-#define HURKOXEL_ALL_ROWS 8192
+/* The most participants of a sheet, and the shortest row buffer for a `makeall`, in which the rows of participant p begin
+ * at HURKOXEL_ROWS * p. Any other word is served by HURKOXEL_ROWS. */
+#define HURKOXEL_PARTICIPANTS 16
+#define HURKOXEL_ALL_ROWS (HURKOXEL_ROWS * HURKOXEL_PARTICIPANTS)
 /* Enough for the line of a refused request. */
 #define HURKOXEL_LINE_BYTES 80
-/* The shortest table that is enough for any sheet, and a buffer that is enough for the text of any table. */
-#define HURKOXEL_SHEET_CELLS 52072
+/* Enough for the text of any table. */
 #define HURKOXEL_SHEET_BYTES 32768
 
 /* A row: P leaves this node by this branch, with so many firings at most. */
@@ -95,20 +95,33 @@ enum {
     HURKOXEL_COUNT_CONDITIONS
 };
 
-/* Where the sections begin, and how many cells an entry has. */
-#define HURKOXEL_NODES_AT 8
+/* The cells of the header, the last two of which are not used, and of an entry; a listed number and a field of a condition
+ * are one cell each. */
+#define HURKOXEL_HEADER_CELLS 8
 #define HURKOXEL_NODE_CELLS 4
-#define HURKOXEL_BRANCHES_AT 2056
 #define HURKOXEL_BRANCH_CELLS 8
-#define HURKOXEL_DEFINITIONS_AT 10248
 #define HURKOXEL_DEFINITION_CELLS 3
-#define HURKOXEL_LISTED_AT 10344
-#define HURKOXEL_CONDITIONS_AT 19304
+
+/* The most nodes, branches and definitions of a sheet, and the room for listed numbers and for cells of conditions. */
+#define HURKOXEL_NODES 512
+#define HURKOXEL_BRANCHES 1024
+#define HURKOXEL_DEFINITIONS 32
+#define HURKOXEL_LISTED 8960
+#define HURKOXEL_CONDITIONS 32768
+
+/* Where the sections begin, each behind the room of the one before it; and the shortest table that is enough for any
+ * sheet, which has 52,072 cells. */
+#define HURKOXEL_NODES_AT HURKOXEL_HEADER_CELLS
+#define HURKOXEL_BRANCHES_AT (HURKOXEL_NODES_AT + HURKOXEL_NODE_CELLS * HURKOXEL_NODES)
+#define HURKOXEL_DEFINITIONS_AT (HURKOXEL_BRANCHES_AT + HURKOXEL_BRANCH_CELLS * HURKOXEL_BRANCHES)
+#define HURKOXEL_LISTED_AT (HURKOXEL_DEFINITIONS_AT + HURKOXEL_DEFINITION_CELLS * HURKOXEL_DEFINITIONS)
+#define HURKOXEL_CONDITIONS_AT (HURKOXEL_LISTED_AT + HURKOXEL_LISTED)
+#define HURKOXEL_SHEET_CELLS (HURKOXEL_CONDITIONS_AT + HURKOXEL_CONDITIONS)
 
 /* The cells of a node: its definition, the branch that holds it (HURKOXEL_NO_BRANCH for a root), its weight there (0
  * unless it is a part of an `s`), its count of branches. */
 enum { HURKOXEL_NODE_DEFINITION, HURKOXEL_NODE_PARENT, HURKOXEL_NODE_WEIGHT, HURKOXEL_NODE_COUNT };
-#define HURKOXEL_NO_BRANCH 1024
+#define HURKOXEL_NO_BRANCH HURKOXEL_BRANCHES
 
 /* The cells of a branch: its node, signers, opening time, kind, and the kind's argument; then, for an `r` (else 0),
  * where its secrets are listed, how many they are, and where its condition stands. */
@@ -138,7 +151,7 @@ enum { HURKOXEL_CONSTANT, HURKOXEL_SECRET, HURKOXEL_ADD, HURKOXEL_SUBTRACT };
  *
  * In this order:
  *   1. A text of more than 65,536 bytes gets number 1 at 0,0.
- *   2. A table of under 52,072 cells gets number 7 at 0,0. Longer ones are fine.
+ *   2. A table of fewer cells than HURKOXEL_SHEET_CELLS gets number 7 at 0,0. Longer ones are fine.
  *   3. The text is read; its first bad field gets 2 to 9. A line behind the sheet gets 9 at its field 1.
  *
  * Read: `length` is `text_length`, and the table holds the sheet; every cell past what is held is zero, in each section
@@ -154,7 +167,8 @@ hurkoxel_reply hurkoxel_read_sheet(const uint8_t *text, size_t text_length,
  *
  * In this order:
  *   1. A table that no text reads to gets number 3 at 0,0: some number is none that reading gives in its place, the text
- *      would pass 32,768 bytes, or there are under 52,072 cells. Cells past what the header counts are not looked at.
+ *      would pass 32,768 bytes, or there are fewer cells than HURKOXEL_SHEET_CELLS. Cells past what the header counts
+ *      are not looked at.
  *   2. A buffer that is too short for the text gets number 20 at 0,0.
  *
  * Written: text[0] to text[length - 1] are the text, with LF after each line; every byte from text[length] on is as it

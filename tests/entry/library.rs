@@ -1,12 +1,11 @@
-//! The static library as a Rust program sees it; include/hurkoxel.h has the contract in words.
+//! The static library as a Rust program sees it; include/hurkoxel.h has the contract in words.  How much
+//! must be lent is known to the model.
 
-/// Fewest rows and fewest bytes of text that must be lent; `makeall` asks for more rows.
-pub const ROWS: usize = 512;
-pub const ALL_ROWS: usize = 8_192;
-pub const TEXT: usize = 180_224;
-/// The cells of a table; not every program that uses the library has one.
-#[allow(dead_code)]
-pub const CELLS: usize = 52_072;
+use crate::model::Place;
+/// Fewest rows and fewest bytes of text that must be lent, more rows for `makeall`, and the cells of a
+/// table.  Not every program that uses the library asks for all of them.
+#[allow(unused_imports)]
+pub use crate::model::{sheets::SHEET_CELLS as CELLS, ALL_ROWS, ROWS, TEXT_BYTES as TEXT};
 
 #[repr(C)]
 #[derive(Clone, Copy, Debug, Default, PartialEq, Eq)]
@@ -14,6 +13,21 @@ pub struct Row {
     pub node: usize,
     pub branch: usize,
     pub rank: usize,
+}
+
+impl Row {
+    /// As the model has it.
+    #[allow(dead_code)]
+    pub fn numbers(&self) -> Place {
+        [self.node, self.branch, self.rank].map(|number| number as u64)
+    }
+}
+
+impl From<Place> for Row {
+    fn from(place: Place) -> Row {
+        let [node, branch, rank] = place.map(|number| number as usize);
+        Row { node, branch, rank }
+    }
 }
 
 /// `number` 0: answered, and `length` bytes of text; else refused.

@@ -92,17 +92,9 @@ fn due(request: &[u8], row_count: usize, text_length: usize) -> Due {
                 field: 0,
                 length: text.len(),
             },
-            rows: rows.iter().map(row).collect(),
+            rows: rows.into_iter().map(Row::from).collect(),
             text: text.into_bytes(),
         },
-    }
-}
-
-fn row((node, branch, rank): &model::Place) -> Row {
-    Row {
-        node: *node as usize,
-        branch: *branch as usize,
-        rank: *rank as usize,
     }
 }
 
@@ -314,9 +306,7 @@ impl Memory {
             bytes.copy_from_slice(&random.next().to_le_bytes()[..bytes.len()]);
         }
         for row in &mut self.rows {
-            row.node = random.next() as usize;
-            row.branch = random.next() as usize;
-            row.rank = random.next() as usize;
+            *row = std::array::from_fn(|_| random.next()).into();
         }
     }
 
@@ -367,19 +357,20 @@ impl Parts {
         let which = random.below(3);
         if which != 0 {
             let some = random.below(library::ROWS);
-            row_count = random.pick(&[0, 1, 511, some]);
+            row_count = random.pick(&[0, 1, library::ROWS - 1, some]);
         }
         if which != 1 {
             let some = random.below(library::TEXT);
-            text_length = random.pick(&[0, 1, 180_223, some]);
+            text_length = random.pick(&[0, 1, library::TEXT - 1, some]);
         }
         Parts::of(random, row_count, text_length)
     }
 
     /// Enough rows for any word but `makeall`.
     fn few(random: &mut Random) -> Parts {
-        let some = random.between(library::ROWS, library::ALL_ROWS - 1);
-        let row_count = random.pick(&[512, 513, 1_024, 8_191, some, some]);
+        let (least, most) = (library::ROWS, library::ALL_ROWS - 1);
+        let some = random.between(least, most);
+        let row_count = random.pick(&[least, least + 1, 2 * least, most, some, some]);
         Parts::of(random, row_count, library::TEXT)
     }
 }
@@ -508,10 +499,10 @@ struct Test {
 
 /// The library as a case of buffers calls it.
 fn call(request: &[u8], places: &mut [model::Place], text: &mut [u8]) -> Answer {
-    let mut rows: Vec<Row> = places.iter().map(row).collect();
+    let mut rows: Vec<Row> = places.iter().copied().map(Row::from).collect();
     let reply = library::judge(request, &mut rows, text);
-    for (place, Row { node, branch, rank }) in places.iter_mut().zip(rows) {
-        *place = (node as u64, branch as u64, rank as u64);
+    for (place, row) in places.iter_mut().zip(rows) {
+        *place = row.numbers();
     }
     sheets::answer(reply)
 }

@@ -8,24 +8,34 @@ use std::path::Path;
 
 use crate::generate::{Generator, Random};
 use crate::library::{self, CELLS};
-use crate::model::sheets::{self, Answer};
+use crate::model::sheets::{self, Answer, COUNTS, HEADER_CELLS, NO_BRANCH};
 use crate::{model, tables};
 
 /// So many texts of a fixed seed show every number.
 pub const SHEETS: usize = 2_000;
 
+/// The most that each number of the header may be.
+const COUNTED: [usize; COUNTS] = [
+    model::PARTICIPANTS as usize,
+    model::DEFINITIONS as usize,
+    model::NODES,
+    model::BRANCHES,
+    sheets::LISTED,
+    sheets::CONDITIONS,
+];
+
 /// The ends of the ranges and of the sections.
 const MOST: [usize; 16] = [
-    8,
-    16,
-    32,
-    64,
-    512,
+    model::SECRETS as usize,
+    model::PARTICIPANTS as usize,
+    model::DEFINITIONS as usize,
+    model::CONDITION_FIELDS,
+    model::NODES,
     model::WEIGHT as usize,
-    1_024,
-    8_960,
-    32_768,
-    65_535,
+    model::BRANCHES,
+    sheets::LISTED,
+    sheets::CONDITIONS,
+    (1 << model::PARTICIPANTS) - 1,
     model::VALUE as usize,
     model::TIME as usize,
     model::SATOSHI as usize,
@@ -181,7 +191,7 @@ impl Test {
         if got != due {
             self.failed.push(format!(
                 "{name}, {length} bytes: due {due:?}, got {got:?}; header {:?}",
-                cells.get(..6)
+                cells.get(..COUNTS)
             ));
         }
         if let Some(place) = self.text.difference() {
@@ -275,7 +285,7 @@ impl Test {
     fn held_place(&mut self, table: &[usize]) -> usize {
         let held = sheets::held(table);
         loop {
-            let section = &held[self.random.below(6)];
+            let section = &held[self.random.below(held.len())];
             if !section.is_empty() {
                 return self.random.between(section.start, section.end - 1);
             }
@@ -289,7 +299,7 @@ impl Test {
         let small = self.random.below(20);
         let near = [old.wrapping_add(1), old.wrapping_sub(1), old ^ 2];
         let near = self.random.pick(&near);
-        let bound = if place < 6 { 40_000 } else { 2_000 };
+        let bound = if place < COUNTS { 40_000 } else { 2_000 };
         let some = self.random.below(bound);
         self.random
             .pick(&[near, near, near, small, small, far, some, any])
@@ -316,7 +326,7 @@ impl Test {
         }
         // The header's last two cells, and the first behind each section.
         let behind = sheets::held(&table).map(|section| section.end);
-        for place in behind.into_iter().chain([7]) {
+        for place in behind.into_iter().chain([HEADER_CELLS - 1]) {
             let old = table[place];
             table[place] = self.random.next() as usize;
             self.back(name, text, &table);
@@ -326,11 +336,12 @@ impl Test {
 
     /// Tables of random numbers: any, small, or with a header in its ranges.
     fn nonsense(&mut self) {
-        let bound = self.random.pick(&[1, 2, 3, 5, 17, 1_025, usize::MAX]);
+        let bounds = [1, 2, 3, 5, 17, NO_BRANCH + 1, usize::MAX];
+        let bound = self.random.pick(&bounds);
         let length = self.random.pick(&[CELLS, CELLS + 10, CELLS - 1, 20_000]);
         let mut table: Vec<usize> = (0..length).map(|_| self.random.below(bound)).collect();
         if self.random.chance(70) {
-            for (place, most) in [16, 32, 512, 1_024, 8_960, 32_768].into_iter().enumerate() {
+            for (place, most) in COUNTED.into_iter().enumerate() {
                 let past = self.random.pick(&[most + 1, 2 * most, usize::MAX]);
                 let within = self.random.below(most + 1);
                 table[place] = self.random.pick(&[within, within, within, most, past]);

@@ -9,6 +9,13 @@
 #include <stdio.h>
 #include <string.h>
 
+/* A constant that is computed is one number wherever it stands, to the preprocessor too. */
+#define ONE(number) (2 * number == number + number && number / number == 1)
+#if !ONE(HURKOXEL_ALL_ROWS) || !ONE(HURKOXEL_BRANCHES_AT) || !ONE(HURKOXEL_DEFINITIONS_AT) || !ONE(HURKOXEL_LISTED_AT) \
+    || !ONE(HURKOXEL_CONDITIONS_AT) || !ONE(HURKOXEL_SHEET_CELLS) || !ONE(HURKOXEL_NODES_AT) || !ONE(HURKOXEL_NO_BRANCH)
+#error "not one number"
+#endif
+
 static hurkoxel_cell drawn[HURKOXEL_SHEET_CELLS];
 static hurkoxel_cell table[HURKOXEL_SHEET_CELLS];
 static hurkoxel_row rows[HURKOXEL_ALL_ROWS];

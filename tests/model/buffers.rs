@@ -4,12 +4,12 @@
 
 use crate::cases::{of_calls, texts};
 use crate::model::sheets::Answer;
-use crate::model::Place;
+use crate::model::{Place, ROW_NUMBERS};
 use crate::notation::Entry;
 use std::path::Path;
 
 /// What every place and every byte that a case lends holds before the call.
-const OLD_ROW: Place = (7, 8, 9);
+const OLD_ROW: Place = [7; ROW_NUMBERS];
 const OLD_BYTE: u8 = b'?';
 
 pub struct Case {
@@ -109,10 +109,9 @@ fn lengths(call: &str) -> Result<[Vec<usize>; 2], String> {
 fn row(line: &str) -> Result<(usize, Place), String> {
     let wrong = || format!("no place and row: {line:?}");
     let (place, row) = line.split_once(' ').ok_or_else(wrong)?;
-    match numbers(row, ',')?[..] {
-        [node, branch, rank] => Ok((number(place)?, (node as u64, branch as u64, rank as u64))),
-        _ => Err(wrong()),
-    }
+    let row = numbers(row, ',')?.into_iter().map(|number| number as u64);
+    let row: Result<Place, _> = row.collect::<Vec<u64>>().try_into();
+    Ok((number(place)?, row.map_err(|_| wrong())?))
 }
 
 /// The rows that are held, by rising place.

@@ -7,6 +7,9 @@
 
 use super::model::{self, Action, Event, LastPart, Ledger, Request, Row, Sheet, Span, Value};
 
+/// A row as it is given to `check`.
+type Numbers = [usize; model::ROW_NUMBERS];
+
 // ---------------------------------------------------------------------------------------------
 // Chance
 // ---------------------------------------------------------------------------------------------
@@ -281,8 +284,8 @@ impl Shape {
             // Splits and renewals that nothing hinders: plays that make many contracts.
             11 => {
                 shape.definitions = random.between(1, 3);
-                shape.nodes = random.between(40, 512);
-                shape.branches = 1_024;
+                shape.nodes = random.between(40, model::NODES);
+                shape.branches = model::BRANCHES;
                 shape.depth = random.between(3, 10);
                 shape.most = random.between(1, 2);
                 shape.parts = random.between(3, 8);
@@ -294,8 +297,8 @@ impl Shape {
             // Large.
             _ => {
                 shape.definitions = random.between(1, 8);
-                shape.nodes = 512;
-                shape.branches = 1_024;
+                shape.nodes = model::NODES;
+                shape.branches = model::BRANCHES;
                 shape.bytes = 32_000;
                 shape.depth = 32;
                 shape.most = random.between(2, 8);
@@ -319,7 +322,7 @@ impl Shape {
         let mut shape = Shape::random(random);
         shape.definitions = random.between(2, 7);
         shape.nodes = shape.definitions + random.pick(&[3, 6, 12, 25, 100, 300]);
-        shape.branches = 1_024;
+        shape.branches = model::BRANCHES;
         shape.depth = random.pick(&[2, 3, 3, 4, 6, 32]);
         shape.least = 2;
         shape.most = random.between(3, 6);
@@ -1207,7 +1210,7 @@ impl Generator {
     }
 
     /// Rows that are accepted where the sheet is liquid for the participant: node, branch and rank.
-    fn rows(&mut self, sheet: &Sheet, participant: usize) -> Vec<[usize; 3]> {
+    fn rows(&mut self, sheet: &Sheet, participant: usize) -> Vec<Numbers> {
         let exits = model::exits(sheet, participant);
         // Rows for nodes that no run reaches are taken too, where their branches allow it.
         let wanted: Vec<bool> = if self.random.chance(20) {
@@ -1219,7 +1222,7 @@ impl Generator {
         let raise = self.random.pick(&[0, 0, 20, 100]);
         let by = self.random.pick(&[1, 5, 100]);
         let mut ranks: Vec<Option<u64>> = vec![None; sheet.nodes.len()];
-        let mut rows: Vec<[usize; 3]> = Vec::new();
+        let mut rows: Vec<Numbers> = Vec::new();
         for node in (0..sheet.nodes.len()).rev() {
             let branches = sheet.branches(node).len();
             // A node with no exit gets some branch, so that the fault is not always a missing row.
@@ -1271,7 +1274,7 @@ impl Generator {
 
     /// Most often by rising node; else with two neighbours swapped, or in any order, or so with one
     /// row twice.
-    fn order_rows(&mut self, rows: &mut Vec<[usize; 3]>) {
+    fn order_rows(&mut self, rows: &mut Vec<Numbers>) {
         rows.sort_by_key(|[node, ..]| *node);
         if rows.len() < 2 {
             return;
@@ -1289,7 +1292,7 @@ impl Generator {
     }
 
     /// Makes one row wrong, but so that it can still be read (most often).
-    fn damage_rows(&mut self, rows: &mut Vec<[usize; 3]>, sheet: &Sheet) {
+    fn damage_rows(&mut self, rows: &mut Vec<Numbers>, sheet: &Sheet) {
         if rows.is_empty() {
             return;
         }
@@ -1763,7 +1766,7 @@ impl Generator {
             Role::Secret => vec![0, 1, 7, 8],
             Role::Constant => vec![0, 1_000_000_000, 1_000_000_001],
             Role::Definition => vec![0, count(2).saturating_sub(1), count(2)],
-            Role::Node => vec![0, 1, 511, 512],
+            Role::Node => vec![0, 1, model::NODES - 1, model::NODES],
             Role::Branch => vec![0, 1, 2, 15, 16],
             Role::Rank => vec![0, 1, 65_535, 65_536],
             Role::Value => vec![0, 1_000_000_000, 1_000_000_001],

@@ -80,7 +80,7 @@ impl Checks {
         }
         // The row buffer is zero unless the sheet was found liquid by a word other than `why`.
         let liquid = printed.contains("liquid,") && whys::asked(request).is_none();
-        if rows.iter().any(|(_, _, rank)| *rank > 0) != liquid {
+        if rows.iter().any(|row| *row != Place::default()) != liquid {
             self.failed
                 .push(format!("{name}: row buffer {rows:?} with {printed:?}"));
         }

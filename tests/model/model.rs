@@ -57,8 +57,8 @@ pub const SATOSHI: u64 = 2_100_000_000_000_000;
 /// The latest opening time, the longest wait, and the latest time of the program's ledger.
 pub const TIME: u64 = 4_294_967_295;
 pub const ROWS: usize = 512;
-/// Places of the row buffer that `makeall` asks for, whatever K is; every other word asks for 512.
-pub const ALL_ROWS: usize = 8_192;
+/// Places of the row buffer that `makeall` asks for, whatever K is; every other word asks for `ROWS`.
+pub const ALL_ROWS: usize = ROWS * PARTICIPANTS as usize;
 /// Bytes of the text buffer that every word asks for.
 pub const TEXT_BYTES: usize = 180_224;
 pub const RANK: u64 = 65_535;
@@ -2717,13 +2717,23 @@ fn digits_of(number: u64) -> usize {
     }
 }
 
-/// A place of the row buffer: node, branch, rank.
-pub type Place = (u64, u64, u64);
+/// The numbers of a row: node, branch, rank.
+pub const ROW_NUMBERS: usize = 3;
+
+/// A place of the row buffer.
+pub type Place = [u64; ROW_NUMBERS];
+
+impl Row {
+    #[inline(always)]
+    fn numbers(&self) -> Place {
+        [self.node as u64, self.branch as u64, self.rank]
+    }
+}
 
 /// Puts rows into the first places, and gives their count.
 fn hold(rows: &[Row], places: &mut [Place]) -> usize {
     for (place, row) in places[..rows.len()].iter_mut().zip(rows) {
-        *place = (row.node as u64, row.branch as u64, row.rank);
+        *place = row.numbers();
     }
     rows.len()
 }
@@ -2869,7 +2879,7 @@ fn put_row(sheet: &Sheet, row: &Row, text: &mut Text) {
 
 #[inline(always)]
 fn put_plainly(row: &Row, text: &mut Text) {
-    text.line("row", [row.node as u64, row.branch as u64, row.rank]);
+    text.line("row", row.numbers());
 }
 
 /// The `liquid` line: participant, count of rows, rank of node 0.
@@ -2888,7 +2898,7 @@ fn put_liquid(sheet: &Sheet, participant: usize, rows: &[Row], text: &mut Text) 
 }
 
 /// What `make` answers for participants 0 to K - 1, in that order.  The rows of participant p stand from
-/// place 512 x p on, with zeros past them.
+/// place `ROWS` x p on, with zeros past them.
 fn made_for_all(sheet: &Sheet, places: &mut [Place], text: &mut Text) -> usize {
     let count = rule!(sheet.participants;
         AllButTheLast: sheet.participants - 1,

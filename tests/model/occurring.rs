@@ -29,8 +29,8 @@ fn of_sheet(sheet: &Sheet) -> [Limit; 9] {
     [
         ("16 participants", sheet.participants == 16),
         ("32 definitions", definitions.len() == 32),
-        ("512 nodes", nodes.len() == 512),
-        ("1,024 branches", branches.len() == 1_024),
+        ("512 nodes", nodes.len() == model::NODES),
+        ("1,024 branches", branches.len() == model::BRANCHES),
         ("32 deep", nodes.iter().any(|node| node.depth == 32)),
         ("16 branches", wide),
         ("8 secrets", secrets.max() == Some(8)),
@@ -45,8 +45,8 @@ fn of_bytes(bytes: &[u8], sheet: &Sheet) -> [Limit; 2] {
     let of_sheet = lines.take(1 + sheet.definitions.len());
     let sheet_bytes: usize = of_sheet.map(|line| line.len()).sum();
     [
-        ("32,768 bytes of sheet", sheet_bytes == 32_768),
-        ("65,536 bytes", bytes.len() == 65_536),
+        ("32,768 bytes of sheet", sheet_bytes == model::SHEET_BYTES),
+        ("65,536 bytes", bytes.len() == model::REQUEST_BYTES),
     ]
 }
 
@@ -56,7 +56,7 @@ fn of_last_part(request: &Request) -> Vec<Limit> {
     match &request.part {
         LastPart::Make { .. } | LastPart::Why { .. } => Vec::new(),
         LastPart::MakeAll => vec![("16 parties", sheet.participants == 16)],
-        LastPart::Check { rows, .. } => vec![("512 rows", rows.len() == 512)],
+        LastPart::Check { rows, .. } => vec![("512 rows", rows.len() == model::ROWS)],
         LastPart::Play(play) => of_play(sheet, play).to_vec(),
     }
 }

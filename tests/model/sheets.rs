@@ -10,22 +10,33 @@ use super::{
     Term, Text, BRANCHES, BRANCHES_OF_A_NODE, CONDITION_FIELDS, DEFINITIONS, DEPTH, NODES,
     PARTICIPANTS, PARTS, REQUEST_BYTES, SATOSHI, SECRETS, SHEET_BYTES, TIME, VALUE, WEIGHT,
 };
+use std::ops::Range;
 
 // ---------------------------------------------------------------------------------------------
 // The layout
 // ---------------------------------------------------------------------------------------------
 
+/// The cells of the header, and how many of them are used: K, F and the counts of nodes, branches,
+/// listed numbers and cells of conditions.
+pub const HEADER_CELLS: usize = 8;
+pub const COUNTS: usize = 6;
+/// The cells of an entry.
+pub const NODE_CELLS: usize = 4;
+pub const BRANCH_CELLS: usize = 8;
+pub const DEFINITION_CELLS: usize = 3;
+/// Room for listed numbers and for cells of conditions.
+pub const LISTED: usize = 8_960;
+pub const CONDITIONS: usize = 32_768;
+/// Where the sections begin, each behind the room of the one before it.
+pub const NODES_AT: usize = HEADER_CELLS;
+pub const BRANCHES_AT: usize = NODES_AT + NODE_CELLS * NODES;
+pub const DEFINITIONS_AT: usize = BRANCHES_AT + BRANCH_CELLS * BRANCHES;
+pub const LISTED_AT: usize = DEFINITIONS_AT + DEFINITION_CELLS * DEFINITIONS as usize;
+pub const CONDITIONS_AT: usize = LISTED_AT + LISTED;
 /// The cells of a table; what a caller lends must have so many.
-pub const SHEET_CELLS: usize = 52_072;
-/// Where the sections begin, behind a header of K, F and the counts of nodes, branches, listed
-/// numbers and cells of conditions.
-pub const NODES_AT: usize = 8;
-pub const BRANCHES_AT: usize = 2_056;
-pub const DEFINITIONS_AT: usize = 10_248;
-pub const LISTED_AT: usize = 10_344;
-pub const CONDITIONS_AT: usize = 19_304;
+pub const SHEET_CELLS: usize = CONDITIONS_AT + CONDITIONS;
 /// The parent of a root.
-pub const NO_BRANCH: usize = 1_024;
+pub const NO_BRANCH: usize = BRANCHES;
 
 /// What a call answers: `number` 0 with the bytes read or written, or a refusal.
 #[derive(Clone, Copy, Debug, Default, PartialEq, Eq)]
@@ -62,15 +73,22 @@ struct Table<'c> {
     conditions: usize,
 }
 
+/// The header of a table.
+fn counts(cells: &[usize]) -> [usize; COUNTS] {
+    std::array::from_fn(|place| cells[place])
+}
+
 /// The sections of a table that was read: where each begins and ends.
-pub fn held(cells: &[usize]) -> [std::ops::Range<usize>; 6] {
+pub fn held(cells: &[usize]) -> [Range<usize>; 6] {
+    let [_, definitions, nodes, branches, listed, conditions] = counts(cells);
+    let section = |at: usize, width: usize, count: usize| at..at + width * count;
     [
-        0..6,
-        NODES_AT..NODES_AT + 4 * cells[2],
-        BRANCHES_AT..BRANCHES_AT + 8 * cells[3],
-        DEFINITIONS_AT..DEFINITIONS_AT + 3 * cells[1],
-        LISTED_AT..LISTED_AT + cells[4],
-        CONDITIONS_AT..CONDITIONS_AT + cells[5],
+        section(0, COUNTS, 1),
+        section(NODES_AT, NODE_CELLS, nodes),
+        section(BRANCHES_AT, BRANCH_CELLS, branches),
+        section(DEFINITIONS_AT, DEFINITION_CELLS, definitions),
+        section(LISTED_AT, 1, listed),
+        section(CONDITIONS_AT, 1, conditions),
     ]
 }
 
@@ -150,7 +168,7 @@ fn lay_out(sheet: &Sheet, cells: &mut [usize]) {
         table.listed,
         table.conditions,
     ];
-    table.put(0, 0, header);
+    table.put::<COUNTS>(0, 0, header);
 }
 
 impl Table<'_> {
@@ -166,7 +184,8 @@ impl Table<'_> {
 
     fn definition(&mut self, sheet: &Sheet, number: usize, definition: &Definition) {
         let (root, secrets) = (definition.root, definition.owners.len());
-        self.put(DEFINITIONS_AT, number, [root, self.listed, secrets]);
+        let entry = [root, self.listed, secrets];
+        self.put::<DEFINITION_CELLS>(DEFINITIONS_AT, number, entry);
         for deposit in sheet.deposits(number) {
             self.list(*deposit as usize);
         }
@@ -180,7 +199,7 @@ impl Table<'_> {
         let branches = sheet.branches(number);
         let definition = sheet.nodes[number].definition;
         let entry = [definition, parent, weight as usize, branches.len()];
-        self.put(NODES_AT, number, entry);
+        self.put::<NODE_CELLS>(NODES_AT, number, entry);
         self.nodes += 1;
         for branch in branches {
             self.branch(sheet, number, branch);
@@ -214,7 +233,7 @@ impl Table<'_> {
         let (signers, opens) = (branch.signers as usize, branch.opens as usize);
         #[rustfmt::skip]
         let entry = [node, signers, opens, kind, argument, first, count, condition_at];
-        self.put(BRANCHES_AT, place, entry);
+        self.put::<BRANCH_CELLS>(BRANCHES_AT, place, entry);
         match &branch.action {
             Action::Split { parts } => {
                 for part in sheet.parts(*parts) {
@@ -309,13 +328,17 @@ pub fn text_of(cells: &[usize]) -> Option<Vec<u8>> {
 
 /// The sheet that the cells hold, if a text of any length reads to them.
 pub fn sheet_of(cells: &[usize]) -> Option<Sheet> {
+    let cells = cells.get(..SHEET_CELLS)?;
+    let counts = counts(cells);
+    let [participants, ..] = counts;
     let mut walk = Walk {
-        cells: cells.get(..SHEET_CELLS)?,
+        cells,
+        counts,
         branches: 0,
         listed: 0,
         conditions: 0,
         sheet: Sheet {
-            participants: cells[0],
+            participants,
             ..Sheet::default()
         },
     };
@@ -326,6 +349,8 @@ pub fn sheet_of(cells: &[usize]) -> Option<Sheet> {
 /// Goes through a table in the order of the text.
 struct Walk<'a> {
     cells: &'a [usize],
+    /// The header.
+    counts: [usize; COUNTS],
     /// How many branches, listed numbers and cells of conditions have been passed.
     branches: usize,
     listed: usize,
@@ -351,14 +376,13 @@ impl Walk<'_> {
     }
 
     fn next_listed(&mut self) -> Option<usize> {
-        let [number] = self.entry(LISTED_AT, self.listed, CONDITIONS_AT - LISTED_AT)?;
+        let [number] = self.entry(LISTED_AT, self.listed, LISTED)?;
         self.listed += 1;
         Some(number)
     }
 
     fn sheet(&mut self) -> Option<()> {
-        let [participants, definitions, nodes, branches, listed, conditions] =
-            self.entry(0, 0, 1)?;
+        let [participants, definitions, nodes, branches, listed, conditions] = self.counts;
         let least = limit!(LeastParticipants, 1);
         within(participants, least, limit!(Participants, PARTICIPANTS))?;
         let least = limit!(LeastDefinitions, 1);
@@ -374,7 +398,8 @@ impl Walk<'_> {
     }
 
     fn definition(&mut self, number: usize) -> Option<()> {
-        let [root, first, secrets] = self.entry(DEFINITIONS_AT, number, DEFINITIONS as usize)?;
+        let [root, first, secrets] =
+            self.entry::<DEFINITION_CELLS>(DEFINITIONS_AT, number, DEFINITIONS as usize)?;
         must(rule!(root == self.sheet.nodes.len(); RootsNotAsked: true))?;
         must(rule!(first == self.listed; DepositsAnywhere: true))?;
         within(secrets, 0, limit!(Secrets, SECRETS))?;
@@ -403,7 +428,7 @@ impl Walk<'_> {
         must(depth <= limit!(Depth, DEPTH))?;
         let number = self.sheet.nodes.len();
         let definition = self.sheet.definitions.len() - 1;
-        let [of, held_by, weight, count] = self.entry(NODES_AT, number, NODES)?;
+        let [of, held_by, weight, count] = self.entry::<NODE_CELLS>(NODES_AT, number, NODES)?;
         must(rule!(of == definition; NodesOfAnyDefinition: true))?;
         must(rule!(held_by == parent; ParentsNotAsked: true))?;
         let heaviest = rule!(heaviest; OtherWeightsNotAsked: heaviest.max(WEIGHT));
@@ -421,7 +446,7 @@ impl Walk<'_> {
     fn branch(&mut self, number: usize, depth: usize) -> Option<Branch> {
         let place = self.branches;
         let [node, signers, opens, kind, argument, first, count, condition_at] =
-            self.entry(BRANCHES_AT, place, BRANCHES)?;
+            self.entry::<BRANCH_CELLS>(BRANCHES_AT, place, BRANCHES)?;
         self.branches += 1;
         must(rule!(node == number; BranchesOfAnyNode: true))?;
         must((signers as u64) < limit!(Signers, number!(Range, self.sheet.participants)))?;
@@ -455,7 +480,8 @@ impl Walk<'_> {
     }
 
     fn renew(&self, definition: usize) -> Option<Action> {
-        must(definition < limit!(RenewedAs, self.cells[1]))?;
+        let [_, definitions, ..] = self.counts;
+        must(definition < limit!(RenewedAs, definitions))?;
         Some(Action::Renew { definition })
     }
 
@@ -507,8 +533,7 @@ impl Walk<'_> {
     /// The next cell of a condition that ends before `end`.
     fn next_field(&mut self, end: usize) -> Option<usize> {
         must(self.conditions < end)?;
-        let room = SHEET_CELLS - CONDITIONS_AT;
-        let [field] = self.entry(CONDITIONS_AT, self.conditions, room)?;
+        let [field] = self.entry(CONDITIONS_AT, self.conditions, CONDITIONS)?;
         self.conditions += 1;
         Some(field)
     }

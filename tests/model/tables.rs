@@ -5,7 +5,8 @@
 use crate::buffers::{answered, done, number, numbers, refusal};
 use crate::cases::{of_calls, texts};
 use crate::model::sheets::{
-    Answer, BRANCHES_AT, CONDITIONS_AT, DEFINITIONS_AT, LISTED_AT, NODES_AT, SHEET_CELLS,
+    Answer, BRANCHES_AT, BRANCH_CELLS, CONDITIONS_AT, COUNTS, DEFINITIONS_AT, DEFINITION_CELLS,
+    LISTED_AT, NODES_AT, NODE_CELLS, SHEET_CELLS,
 };
 use crate::notation::{Entry, Scope, Texts};
 use std::ops::Range;
@@ -131,24 +132,22 @@ impl Section {
     }
 }
 
+// The numbers of an entry, as many as it has cells.
+#[rustfmt::skip]
+const HEADER: [&str; COUNTS] =
+    ["participants", "definitions", "nodes", "branches", "listed", "conditions"];
+const NODE: [&str; NODE_CELLS] = ["definition", "parent", "weight", "count"];
+#[rustfmt::skip]
+const BRANCH: [&str; BRANCH_CELLS] =
+    ["node", "signers", "opens", "kind", "argument", "first", "count", "condition"];
+const DEFINITION: [&str; DEFINITION_CELLS] = ["root", "first", "secrets"];
+
 #[rustfmt::skip]
 const SECTIONS: [Section; 6] = [
-    Section {
-        name: "header", entry: "header", from: 0, to: 6,
-        numbers: &["participants", "definitions", "nodes", "branches", "listed", "conditions"],
-    },
-    Section {
-        name: "nodes", entry: "node", from: NODES_AT, to: BRANCHES_AT,
-        numbers: &["definition", "parent", "weight", "count"],
-    },
-    Section {
-        name: "branches", entry: "branch", from: BRANCHES_AT, to: DEFINITIONS_AT,
-        numbers: &["node", "signers", "opens", "kind", "argument", "first", "count", "condition"],
-    },
-    Section {
-        name: "definitions", entry: "definition", from: DEFINITIONS_AT, to: LISTED_AT,
-        numbers: &["root", "first", "secrets"],
-    },
+    Section { name: "header", entry: "header", from: 0, to: COUNTS, numbers: &HEADER },
+    Section { name: "nodes", entry: "node", from: NODES_AT, to: BRANCHES_AT, numbers: &NODE },
+    Section { name: "branches", entry: "branch", from: BRANCHES_AT, to: DEFINITIONS_AT, numbers: &BRANCH },
+    Section { name: "definitions", entry: "definition", from: DEFINITIONS_AT, to: LISTED_AT, numbers: &DEFINITION },
     Section { name: "listed", entry: "listed", from: LISTED_AT, to: CONDITIONS_AT, numbers: &["number"] },
     Section { name: "conditions", entry: "condition", from: CONDITIONS_AT, to: SHEET_CELLS, numbers: &["field"] },
 ];

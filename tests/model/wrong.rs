@@ -345,7 +345,7 @@ mod switch {
         ContractsMade "256 contracts made"
         SetsMade "32 sets made"
         DepositsTaken "2,100,000,000,000,000 of all deposits taken"
-        TableCells "52,072 cells of a table"
+        TableCells "the cells of a table"
         LentRows "512 places lent for rows"
         LentAllRows "8,192 places lent for rows of `makeall`"
         LentText "180,224 bytes lent for text"
@@ -1633,7 +1633,7 @@ fn row_of(line: &str) -> Option<Row> {
         let numbers = numbers.split(',');
         numbers.map(|number| number.parse().ok()).collect()
     });
-    let [node, branch, rank] = numbers?.try_into().ok()?;
+    let [node, branch, rank]: Place = numbers?.try_into().ok()?;
     let (node, branch) = (node as usize, branch as usize);
     Some(Row { node, branch, rank })
 }
@@ -1855,7 +1855,7 @@ pub fn keep(rows: &mut [Place], old: &[Place], keeps: impl Fn(&[Place], usize) -
 
 /// Is there a row in this place?  A participant's first place has one if any has.
 fn is_row(rows: &[Place], place: usize) -> bool {
-    rows.get(place).is_some_and(|(_, _, rank)| *rank > 0)
+    rows.get(place).is_some_and(|row| *row != Place::default())
 }
 
 /// The places past a participant's rows.

@@ -18,6 +18,9 @@
 mod library;
 #[path = "../judge/longest.rs"]
 mod longest;
+#[allow(dead_code)]
+#[path = "../model/model.rs"]
+mod model;
 mod requests;
 
 use std::error::Error;

@@ -2,6 +2,7 @@
 //! every word, and the longest of each; and one that asks for the least.
 
 use crate::longest::{longest_play, LONGEST};
+use crate::model::{DEPTH, NODES};
 
 /// What the library is asked.
 pub enum Asked {
@@ -33,9 +34,6 @@ pub const SMALL: (&str, &str) = (
 
 /// In the name of those that ask for the most stack.
 pub const DEEPEST: &str = "nots";
-
-/// How deep contracts may be.
-const DEPTH: usize = 32;
 
 /// Contracts so many deep: parts one in the other, and then a reveal under this condition.
 fn chain(depth: usize, condition: &str) -> String {
@@ -122,7 +120,7 @@ fn largest() -> [Named; 6] {
     let (widest, way) = (widest(), longest_way());
     let (play, played) = longest_play();
     let answered = played.lines().count();
-    let (made, liquid) = (512 + 1, "liquid,15,512,1");
+    let (made, liquid) = (NODES + 1, "liquid,15,512,1");
     [
         ("widest, make", format!("{widest}make,15\n"), made, liquid),
         (
@@ -135,7 +133,7 @@ fn largest() -> [Named; 6] {
         (
             "511 steps, why",
             format!("{way}why,0\n"),
-            1 + 511 + 2,
+            1 + (NODES - 1) + 2,
             "branch,1,4",
         ),
         (

@@ -1,13 +1,13 @@
 -- Laws of tests and lists. Assumes nothing.
 use mathlib.Core.Path.{_≡_, refl, sym, ap, ap₂, _∙_, subst}
 use mathlib.Core.Logic.{_⊎_, inl, inr, by-cases}
-use Prim.Native.Nat.{ℕ, zero, suc, _+_, _*_, _≤_, _<_}
+use Prim.Native.Nat.{ℕ, zero, suc, _+_, _-_, _*_, _≤_, _<_}
 use native.Mathlib.Omega.{arith}
 use native.Mathlib.Decide.{decLe}
 use native.Mathlib.Nat.{suc-ne-zero}
 use mathlib.Core.Bool.{Bool, true, false, not, false≢true, true≢false, cond}
 use mathlib.Core.List.{List, [], _∷_, _++_, map, List·Memᴰ, List·Memᴰ·head, List·Memᴰ·tail, nil≢cons, head-eq-of-cons-eq, append-assoc}
-use lib.ListN.{length, getD, set, length-append, replicate}
+use lib.ListN.{length, getD, set, drop, length-append, replicate}
 use Rattle.bitml.specs.Lists.{_&_, _or_, _⇒_, ask, sum, every, any, keep, gather, All, nil, cons, upFrom}
 
 -- a test that can't pass
@@ -234,6 +234,11 @@ module _ {A : Type 0} where
   at-replicate zero i a = refl
   at-replicate (suc n) zero a = refl
   at-replicate (suc n) (suc i) a = at-replicate n i a
+
+  pub drop-replicate : (k n : ℕ) (a : A) → drop k (replicate n a) ≡ replicate (n - k) a
+  drop-replicate zero n a = ap (λ m. replicate m a) (let e : n ≡ n - 0 = omega arith in e)
+  drop-replicate (suc k) zero a = ap (λ m. replicate m a) (let e : 0 ≡ 0 - suc k = omega arith in e)
+  drop-replicate (suc k) (suc n) a = drop-replicate k n a ∙ ap (λ m. replicate m a) (let e : n - k ≡ suc n - suc k = omega arith in e)
 
   pub every-map : {B : Type 0} (t : B → Bool) (f : A → B) (xs : List A) → every t (map f xs) ≡ true → All (λ x. t (f x) ≡ true) xs
   every-map t f [] e = nil

@@ -4,20 +4,21 @@ use Prim.Native.Nat.{ℕ, _-_, _*_, _≤_, _<_}
 use native.Mathlib.Omega.{arith}
 use mathlib.Core.Bool.{Bool, true, false, cond}
 use mathlib.Core.List.{List}
-use lib.ListN.{length, replicate, getD, length-append}
+use lib.ListN.{length, getD}
 use lib.Dec.{eqb}
 use borrow.Author.Tests.{eqb-true, eq-eqb, ne-eqb, le-leb, lt-leb}
 use mathlib.Core.Logic.{by-cases}
 use native.Mathlib.Decide.{decLe}
 use Rattle.bitml.specs.Sheet.{Sheet}
 use Rattle.bitml.specs.Rows as bitml
-use Rattle.bitml.specs.Answers.{makingAll, Answer, refused, printed, answer}
+use Rattle.bitml.specs.Answers.{makingAll, Answer, refused, printed, answer, placesOfOne}
 use Rattle.tables.specs.Entries.{held, people, Spacious}
 use Rattle.tables.specs.SheetOf.{nodeEntryAt}
-use Rattle.tables.proofs.Laws.{firstOf-getD}
+use Rattle.tables.proofs.Runs.{firstOf-getD}
 use Rattle.tables.proofs.Held.{node-held}
-use Rattle.requests.specs.Rows.{RowFits, countIn, row, rowIn, rowsOf}
-use Rattle.requests.proofs.Laws.{rows-length}
+use Rattle.buffer.specs.Buffer.{row, rowIn, rowsOf, placesOfAll, numbersOfAll, numbersOfOne, rowWide}
+use Rattle.buffer.proofs.Buffer.{rows-length, filled-few}
+use Rattle.requests.specs.Rows.{RowFits, countIn}
 use Rattle.reading.specs.declared.Request.{Request}
 use Rattle.reading.specs.declared.Request.the-variants as code
 use Rattle.reading.specs.Request.{LastPart, request, readRequest, answered, makeAll, check}
@@ -27,15 +28,13 @@ use Rattle.promises.proofs.Whole.{promised-whole, whole-paid}
 use Rattle.sheets.specs.Ready.{Ready}
 use Rattle.rows.specs.Given.{RowsFit}
 use Rattle.replies.specs.declared.Reply.{Reply}
-use Rattle.buffer.specs.Filled.{flat, filled}
-use Rattle.buffer.proofs.Filled.{flat-length}
 use Rattle.lent.specs.Structs.{structs}
 use Rattle.lent.proofs.Structs.{structs-filled, structs-cleared}
 use Rattle.replies.specs.Answer.{numbersOf, Gives}
 use Rattle.replies.specs.Before.{early}
 use Rattle.replies.proofs.Before.{early-long, early-rows}
-use Rattle.checker.specs.Entry.{placesOfAll, answerForAll, judged, answerTo, placesOf}
-use Rattle.checker.specs.Lending.{numbersOfAll, Wide}
+use Rattle.checker.specs.Entry.{answerForAll, judged, answerTo, placesOf}
+use Rattle.checker.specs.Lending.{Wide}
 
 -- ---- what is known of the table t and the row buffer u after reading
 
@@ -64,7 +63,7 @@ module _ (s t u : List ℕ) (x : Request) (read : answered x t u ≡ readRequest
       let k = promised-whole s (people t) (held t) l w in
       (record { long = omega (arith, room, whole-paid s (people t) (held t) l w); promises = k .0 }, k .1)
 
-  pub ready-check : (p n : ℕ) → x ≡ code.Check p n → Spacious s t → 1536 ≤ length u → Ready t × (p < people t) × RowsFit t u n
+  pub ready-check : (p n : ℕ) → x ≡ code.Check p n → Spacious s t → numbersOfOne ≤ length u → Ready t × (p < people t) × RowsFit t u n
   unfolding answered PartPromise
   ready-check p n e room wide =
       let k = ready-by (code.Check p n) (check p (rowsOf n u)) e refl room in
@@ -120,22 +119,18 @@ module _ (rows : ℕ) (S : Sheet) where
 
 -- ---- the rows of an answer, from L numbers
 
-filled-few : (L : ℕ) (R : List bitml.Row) → length (filled L R) ≡ L → 3 * length R ≤ L
-unfolding filled
-filled-few L R e = omega (arith, e, flat-length R, length-append (flat R) (replicate (L - 3 * length R) 0))
-
-places : (a : Answer) (n L : ℕ) → L ≤ 3 * n → length (numbersOf L a) ≡ L → structs n (numbersOf L a) ≡ placesOf n a
+places : (a : Answer) (n L : ℕ) → L ≤ rowWide * n → length (numbersOf L a) ≡ L → structs n (numbersOf L a) ≡ placesOf n a
 unfolding numbersOf placesOf
 places (refused i l f) n L h k = structs-cleared n L
 places (printed ls R) n L h k = structs-filled n L R (omega (arith, filled-few L R k))
 
 -- fewer than 512 places are refused
-early-few : (bytes rows text : ℕ) → early bytes rows text ≡ 0 → 512 ≤ rows
+early-few : (bytes rows text : ℕ) → early bytes rows text ≡ 0 → placesOfOne ≤ rows
 early-few bytes rows text e =
-    by-cases (decLe 512 rows) (λ h. h)
+    by-cases (decLe placesOfOne rows) (λ h. h)
     (λ h. by-cases (decLe bytes 65536) (λ k. absurd (omega (arith, early-rows bytes rows text k (omega arith), e))) (λ k. absurd (omega (arith, early-long bytes rows text (omega arith), e))))
 
-pub places-are : (s : List ℕ) (n m : ℕ) (xs : List ℕ) (L : ℕ) → (512 ≤ n → L ≤ 3 * n) → xs ≡ numbersOf L (answerTo s n m) → length xs ≡ L → structs n xs ≡ placesOf n (answerTo s n m)
+pub places-are : (s : List ℕ) (n m : ℕ) (xs : List ℕ) (L : ℕ) → (placesOfOne ≤ n → L ≤ rowWide * n) → xs ≡ numbersOf L (answerTo s n m) → length xs ≡ L → structs n xs ≡ placesOf n (answerTo s n m)
 unfolding answerTo numbersOf placesOf
 places-are s n m xs L w e k = ap (structs n) e ∙ go (eqb (early (length s) n m) 0) refl (ap (λ us. length us) (sym e) ∙ k)
   where

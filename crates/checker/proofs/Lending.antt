@@ -9,10 +9,10 @@ use borrow.Author.Tests.{le-ltb, le-leb, lt-leb}
 use Rattle.bitml.proofs.Lists.{and-true, and-false}
 use Rattle.fields.proofs.Words.{Bytes}
 use Rattle.tables.specs.Entries.{Entries}
+use Rattle.buffer.specs.Buffer.{placesOfAll, numbersOfOne}
 use Rattle.reading.specs.Request.{request, makeAll, readRequest}
 use Rattle.promises.proofs.LastLine.{all-last}
-use Rattle.checker.specs.Entry.{placesOfAll}
-use Rattle.checker.specs.Lending.{numbersOfOne, Wide, namesAll, endsInAll, wantsAll}
+use Rattle.checker.specs.Lending.{Wide, namesAll, endsInAll, wantsAll}
 
 ends-in-all : (s : List ℕ) → Bytes s → (K : ℕ) (E : Entries) → readRequest s ≡ request K E makeAll → endsInAll s ≡ true
 unfolding endsInAll namesAll

@@ -16,7 +16,8 @@ use Rattle.tables.specs.SheetOf.{sheetOf, defEntryAt}
 use Rattle.replies.specs.declared.Reply.{Reply}
 use Rattle.texts.specs.Wrote.{Wrote}
 use Rattle.texts.specs.Text.{lineText, linesText, fields, line}
-use Rattle.texts.proofs.Writing.{wrote-none, drop-zeros}
+use Rattle.bitml.proofs.Lists.{drop-replicate}
+use Rattle.texts.proofs.Writing.{wrote-none}
 use Rattle.bitml.specs.Answers.{making, makingAll, explaining, checking, playing, refusedLine, Line, rowLine, liquidLine, frozenLine, stepLine, branchLine, takenLine, endLine, Answer, refused, printed, liquidBy, madeLines, madeBy, madeForAll, whyLines, checkedBy, eventLines, endOf, playLines, answer}
 use Rattle.replies.specs.Answer.{replyOf, bytesOf}
 use Rattle.bitml.specs.Sheet.{Sheet}
@@ -27,13 +28,14 @@ use Rattle.plays.specs.Events.{eventsOf}
 use Rattle.bitml.specs.Rule.{Verdict, liquid, frozen, make}
 use Rattle.texts.proofs.Texts.{lines-append, one-line}
 use Rattle.bitml.specs.Rows.{check}
+use Rattle.buffer.specs.Buffer.{placesOfAll}
 use Rattle.reading.specs.Request.{Reading, request, readRequest}
 use Rattle.reading.specs.Request.{refused as unread}
 use Rattle.reading.specs.Request as part
 use Rattle.promises.specs.Texts.{PromisedWhole}
 use Rattle.promises.proofs.Whole.{promised-whole}
 use Rattle.replies.specs.Before.{early}
-use Rattle.checker.specs.Entry.{placesOfAll, answerForAll, answerFor, judged, answerTo, refusedIn, textIn}
+use Rattle.checker.specs.Entry.{answerForAll, answerFor, judged, answerTo, refusedIn, textIn}
 
 -- ---- the line of a refused request
 
@@ -185,7 +187,7 @@ module _ (a : Answer) (m : ℕ) (r : Reply) (b : List ℕ) (told : r ≡ replyOf
   answer-behind = ap₂ (λ (q : Reply) u. drop (q .length) u) told wrote ∙ go a ∙ ap (λ (q : Reply). replicate (m - q .length) 0) (sym told)
     where
       go : (a : Answer) → drop (replyOf a .length) (bytesOf m a) ≡ replicate (m - replyOf a .length) 0
-      go (refused n l f) = drop-zeros 0 m
+      go (refused n l f) = drop-replicate 0 m 0
       go (printed ls R) = drop-append-seam (linesText ls) (replicate (m - length (linesText ls)) 0)
 
   pub refusal-shown : Says a → r .length ≤ 0 → (v : List ℕ) (k : ℕ) → Wrote b 0 (refusedIn (length b) (r .number) (r .line) (r .field)) v k → take k v ≡ textIn m a
@@ -201,4 +203,4 @@ module _ (a : Answer) (m : ℕ) (r : Reply) (b : List ℕ) (told : r ≡ replyOf
   refusal-behind e {xs} {v} {k} w =
       let none : 0 ≡ r .length = omega (arith, e) in
       let left : m - r .length - k ≡ m - k = omega (arith, e) in
-      w .rest ∙ ap (λ u. drop k u) (ap (λ i. drop i b) none ∙ answer-behind) ∙ drop-zeros k (m - r .length) ∙ ap (λ i. replicate i 0) left
+      w .rest ∙ ap (λ u. drop k u) (ap (λ i. drop i b) none ∙ answer-behind) ∙ drop-replicate k (m - r .length) 0 ∙ ap (λ i. replicate i 0) left

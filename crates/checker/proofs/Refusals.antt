@@ -15,12 +15,13 @@ use Rattle.bitml.specs.Sheet.{Sheet}
 use Rattle.bitml.specs.Rows as rows
 use Rattle.bitml.specs.Rows.{Row, Wrong, missing, foreign, low, FaultAt, twice, fall, rootless, row}
 use Rattle.bitml.specs.Ledger.{Event}
-use Rattle.bitml.specs.Answers.{liquidBy, Answer, refused, printed, making, explaining, checking, playing, madeBy, madeForAll, checkedBy, answer}
+use Rattle.bitml.specs.Answers.{liquidBy, Answer, refused, printed, making, explaining, checking, playing, madeBy, madeForAll, checkedBy, answer, placesOfOne}
 use Rattle.bitml.proofs.Lists.{and-no, and-false, and-i}
 use Rattle.bitml.proofs.Demands.{demands}
 use Rattle.fields.proofs.Ranges.{cond-cases}
 use Rattle.tables.specs.Entries.{Entries}
 use Rattle.tables.specs.SheetOf.{sheetOf, defEntryAt}
+use Rattle.buffer.specs.Buffer.{placesOfAll}
 use Rattle.reading.specs.Request.{Reading, request, LastPart, make, makeAll, why, check, play, readRequest}
 use Rattle.reading.specs.Request.{refused as unread}
 use Rattle.promises.specs.Refusals.{ReadNumber, OfReadings}
@@ -31,7 +32,7 @@ use Rattle.ledger.specs.Values.{valuesOf}
 use Rattle.plays.specs.Events.{eventsOf}
 use Rattle.plays.proofs.Ranges.{events-range}
 use Rattle.checker.specs.Demands.{Room}
-use Rattle.checker.specs.Entry.{placesOfAll, answerForAll, answerFor, judged, answerTo}
+use Rattle.checker.specs.Entry.{answerForAll, answerFor, judged, answerTo}
 use Rattle.checker.specs.Refusals.{Why, tooLong, shortBuffers, notRead, fewPlaces, rowsRefused, Refused, long, short, misread, few, declined, RowsNumber, Placed, OfRefusals}
 use Rattle.replies.proofs.Before.{early-long, early-rows, early-text}
 use Rattle.checker.proofs.Entry.{all-few, all-enough}
@@ -47,10 +48,10 @@ module _ (s : List ℕ) (places text : ℕ) where
   unfolding answerTo
   answer-long h = ap early-answer (sym (early-long (length s) places text h))
 
-  answer-short : length s ≤ 65536 → (places < 512) ⊎ (text < leastText) → answerTo s places text ≡ refused 7 0 0
+  answer-short : length s ≤ 65536 → (places < placesOfOne) ⊎ (text < leastText) → answerTo s places text ≡ refused 7 0 0
   unfolding answerTo
   answer-short h i =
-      by-cases (decLe 512 places)
+      by-cases (decLe placesOfOne places)
       (λ k. ap early-answer (sym (early-text (length s) places text h k (⊎-elim (λ j. absurd (omega (arith, j, k))) (λ j. j) i))))
       (λ k. ap early-answer (sym (early-rows (length s) places text h (omega arith))))
 
@@ -73,9 +74,9 @@ readingWhy (request K E l) = partWhy l
 readingWhy (unread n l f) = notRead
 
 unfoldable whyOf : List ℕ → ℕ → ℕ → Why
-whyOf s places text = cond (leb (length s) 65536) (cond (leb 512 places & leb leastText text) (readingWhy (readRequest s)) shortBuffers) tooLong
+whyOf s places text = cond (leb (length s) 65536) (cond (leb placesOfOne places & leb leastText text) (readingWhy (readRequest s)) shortBuffers) tooLong
 
-short-test : (places text : ℕ) → (places < 512) ⊎ (text < leastText) → (leb 512 places & leb leastText text) ≡ false
+short-test : (places text : ℕ) → (places < placesOfOne) ⊎ (text < leastText) → (leb placesOfOne places & leb leastText text) ≡ false
 short-test places text i = ⊎-elim (λ h. and-false _ _ (lt-leb _ _ h)) (λ h. and-no _ _ (lt-leb _ _ h)) i
 
 module _ {s : List ℕ} {places text : ℕ} where
@@ -184,7 +185,7 @@ module _ (s : List ℕ) (places text : ℕ) where
   reading r (request K E (play v z)) e = played (sheetOf K E) (valuesOf s v (defEntryAt E 0 .secrets)) (eventsOf s K z)
   reading r (unread n l f) e = (notRead, misread r e)
 
-  narrow : length s ≤ 65536 → (places < 512) ⊎ (text < leastText) → Reasoned (answerTo s places text)
+  narrow : length s ≤ 65536 → (places < placesOfOne) ⊎ (text < leastText) → Reasoned (answerTo s places text)
   unfolding Reasoned
   narrow h i = subst Reasoned (sym (answer-short s places text h i)) (shortBuffers, short h i)
 
@@ -192,7 +193,7 @@ module _ (s : List ℕ) (places text : ℕ) where
   unfolding Reasoned
   reasoned =
       by-cases (decLe (length s) 65536)
-      (λ h. by-cases (decLe 512 places)
+      (λ h. by-cases (decLe placesOfOne places)
       (λ i. by-cases (decLe leastText text)
       (λ j.
       let r : Room s places text = record { bytes = h; enough-places = i; enough-text = j } in

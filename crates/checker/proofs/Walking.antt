@@ -11,15 +11,16 @@ use ghost.Atoms.{Atoms}
 use types.Kit.{Given}
 use denote.Laws.{Is}
 use denote.Struct.Laws as LL
+use Rattle.bitml.specs.Answers.{placesOfOne}
+use Rattle.buffer.specs.Buffer.{placesOfAll, numbersOfOne, numbersOfAll, rowWide}
 use Rattle.replies.specs.declared.Reply.{Reply}
 use Rattle.replies.proofs.Reply as R
 use Rattle.replies.proofs.Reply.Laws as R′
-use Rattle.checker.specs.Entry.{placesOfAll}
-use Rattle.checker.specs.Lending.{numbersOfOne, numbersOfAll, Wide}
+use Rattle.checker.specs.Lending.{Wide}
 
 -- k numbers are enough for any word but `makeall`, and there are no more than n rows take
 abbrev pub Few : (n k : ℕ) → Type 0
-Few n k = 512 ≤ n → (numbersOfOne ≤ k) × (k ≤ 3 * n)
+Few n k = placesOfOne ≤ n → (numbersOfOne ≤ k) × (k ≤ rowWide * n)
 
 pub few-one : (n : ℕ) → Few n numbersOfOne
 few-one n h = (omega arith, omega (arith, h))

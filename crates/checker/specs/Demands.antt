@@ -12,7 +12,7 @@ use Rattle.bitml.specs.Rule.{rows}
 use Rattle.bitml.specs.Ledger.{Event, play, stipulated}
 use Rattle.bitml.specs.Liquidity.{Numbers, NumbersAlong, NoneLive, liveRank, Way}
 use Rattle.bitml.specs.Why.{Move, FirstShortest, LowestCause}
-use Rattle.bitml.specs.Answers.{Line, rowLine, frozenLine, stepLine, branchLines, Answer, refused, printed, liquidBy}
+use Rattle.bitml.specs.Answers.{Line, rowLine, frozenLine, stepLine, branchLines, Answer, refused, printed, liquidBy, placesOfOne}
 use Rattle.bitml.specs.Demands.{Frozen, Published}
 use Rattle.tables.specs.Entries.{Entries}
 use Rattle.tables.specs.SheetOf.{sheetOf}
@@ -106,7 +106,7 @@ pub record RowsRefused (S : Sheet) (p : ℕ) (R : List Row) (a : Answer) : Type 
 -- None of "over 65,536 bytes", "a lent row buffer under 512", and a text buffer in which not every reply fits
 pub record Room (s : List ℕ) (places text : ℕ) : Type 0 where
   pub bytes : length s ≤ 65536
-  pub enough-places : 512 ≤ places
+  pub enough-places : placesOfOne ≤ places
   pub enough-text : leastText ≤ text
 
 pub record OfReplies : Type 0 where

@@ -11,15 +11,12 @@ use Rattle.reading.specs.Request.{Reading, request, LastPart, make, makeAll, wh
 use Rattle.reading.specs.Request.{refused as unread}
 use Rattle.bitml.specs.Answers.{refusedLine, making, makingAll, explaining, checking, playing, Answer, refused, printed, answer}
 use Rattle.texts.specs.Text.{lineText, linesText}
+use Rattle.buffer.specs.Buffer.{placesOfAll}
 use Rattle.lent.specs.declared.Row.{Row}
 use Rattle.lent.specs.Structs.{noRow, structOf}
 use Rattle.replies.specs.Before.{early}
 use Rattle.ledger.specs.Values.{valuesOf}
 use Rattle.plays.specs.Events.{eventsOf}
-
--- `makeall`: "Its call lends 8,192 places for rows"
-abbrev pub placesOfAll : ℕ
-placesOfAll = 8192
 
 -- "Fewer places get 7 at line 0, field 0, looked at after reading has found nothing bad"
 unfoldable pub answerForAll : ℕ → Sheet → Answer

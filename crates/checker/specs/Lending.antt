@@ -10,15 +10,8 @@ use Rattle.fields.specs.Field.{spelled, firstAt}
 use Rattle.fields.specs.declared.Got.{Got}
 use Rattle.fields.specs.declared.Got.the-variants.{Value, Bad}
 use Rattle.tables.specs.Entries.{Entries}
+use Rattle.buffer.specs.Buffer.{placesOfAll, numbersOfAll}
 use Rattle.reading.specs.Request.{request, makeAll, readRequest}
-use Rattle.checker.specs.Entry.{placesOfAll}
-
--- three numbers for each row of any word but `makeall`, and for those of `makeall`
-abbrev pub numbersOfOne : ℕ
-numbersOfOne = 1536
-
-abbrev pub numbersOfAll : ℕ
-numbersOfAll = 24576
 
 -- n numbers are enough for the request s with places for so many rows, if it is a `makeall`
 unfoldable pub Wide : List ℕ → ℕ → ℕ → Type 0

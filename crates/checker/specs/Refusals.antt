@@ -8,9 +8,10 @@ use Rattle.bitml.specs.Lists.{All}
 use Rattle.bitml.specs.Rows.{Row, FaultAt}
 use Rattle.bitml.specs.Ledger.{stipulated}
 use Rattle.bitml.specs.Limits.{answers}
-use Rattle.bitml.specs.Answers.{refused}
+use Rattle.bitml.specs.Answers.{refused, placesOfOne}
 use Rattle.tables.specs.Entries.{Entries}
 use Rattle.tables.specs.SheetOf.{sheetOf, defEntryAt}
+use Rattle.buffer.specs.Buffer.{placesOfAll}
 use Rattle.reading.specs.Request.{request, makeAll, check, play, readRequest}
 use Rattle.reading.specs.Request.{refused as unread}
 use Rattle.promises.specs.Refusals.{WhileReading, EventNumber}
@@ -18,7 +19,7 @@ use Rattle.replies.specs.Answer.{leastText}
 use Rattle.ledger.specs.Values.{valuesOf}
 use Rattle.plays.specs.Events.{eventsOf}
 use Rattle.checker.specs.Demands.{Room}
-use Rattle.checker.specs.Entry.{placesOfAll, answerTo}
+use Rattle.checker.specs.Entry.{answerTo}
 
 -- "1, then short buffers, come first", then reading, and rows, those given and the places for those of all, are judged last
 pub data Why : Type 0 where
@@ -29,7 +30,7 @@ pub data Refused (s : List ℕ) (places text : ℕ) : Why → ℕ → ℕ → �
   -- "over 65,536 bytes; line 0, field 0"
   long : 65536 < length s → Refused s places text tooLong 1 0 0
   -- "a lent row buffer under 512 (line 0, field 0)", or a text buffer in which not every reply fits
-  short : length s ≤ 65536 → (places < 512) ⊎ (text < leastText) → Refused s places text shortBuffers 7 0 0
+  short : length s ≤ 65536 → (places < placesOfOne) ⊎ (text < leastText) → Refused s places text shortBuffers 7 0 0
   -- "reading stops at its first bad field"
   misread : {n l f : ℕ} → Room s places text → readRequest s ≡ unread n l f → Refused s places text notRead n l f
   -- `makeall`: "Fewer places get 7 at line 0, field 0, looked at after reading has found nothing bad"

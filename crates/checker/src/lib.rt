@@ -1,4 +1,8 @@
 // The checker's entry: any request and any lent buffers get one reply, and so do any text and any table.
+use buffer::ALL_NUMBERS;
+use buffer::ALL_PLACES;
+use buffer::NUMBERS;
+use buffer::ROW_WIDE;
 use fields::Got;
 use lent::Row;
 use lent::emit_rows;
@@ -23,36 +27,25 @@ ghost use mathlib.Core.Path.{_≡_};
 ghost use mathlib.Core.Bool.{true, false};
 ghost use Prim.Native.Nat.{_/_, _*_, _-_, _≤_};
 ghost use lib.ListN.{length, take, drop, replicate};
+ghost use Rattle.bitml.specs.Answers.{placesOfOne};
 ghost use Rattle.reading.specs.Request.{readRequest};
 ghost use Rattle.tables.specs.Entries.{Spacious};
 ghost use Rattle.tables.specs.SheetOf.{sheetIn};
+ghost use Rattle.buffer.specs.Buffer.{placesOfAll, numbersOfOne, numbersOfAll, rowWide};
 ghost use Rattle.sheets.specs.Ready.{Ready};
 ghost use Rattle.texts.specs.Wrote.{Wrote};
 ghost use Rattle.replies.specs.Answer.{Gives, replyOf, numbersOf, bytesOf, leastText};
 ghost use Rattle.loading.specs.Loading.{loading, replyTo, cellsOf};
 ghost use Rattle.saving.specs.Saving as saved;
 ghost use Rattle.saving.specs.Saving.{saving};
-ghost use Rattle.checker.specs.Entry.{placesOfAll, answerForAll, judged, answerTo, placesOf, refusedIn, textIn};
-ghost use Rattle.checker.specs.Lending.{numbersOfOne, numbersOfAll, Wide, endsInAll, wantsAll};
-
-// The fewest rows that must be lent for `makeall`.
-const ALL_ROWS: usize = 8192;
-
-// Three numbers for each of the 512 rows that any word may ask for, and for each of these.
-const NUMBERS: usize = 1536;
-
-const ALL_NUMBERS: usize = 24576;
+ghost use Rattle.checker.specs.Entry.{answerForAll, judged, answerTo, placesOf, refusedIn, textIn};
+ghost use Rattle.checker.specs.Lending.{Wide, endsInAll, wantsAll};
 
 // The bytes of the line `makeall`, its LF with them.
 const ALL_LINE: usize = 8;
 
 // The fewest bytes for a line of three numbers.
 const LINE: usize = 80;
-
-// The longest short request, and how many numbers its table has: a cell for every two bytes.
-const SHORT: usize = 2048;
-
-const SHORT_TABLE: usize = Sheet::CELLS_AT + SHORT / 2;
 
 // `makeall` of a sheet that stands in the table, where the caller has places for so many rows.
 fn all_for(t: &[usize], room: usize, rows: &mut [usize], text: &mut [u8]) -> Reply
@@ -61,7 +54,7 @@ fn all_for(t: &[usize], room: usize, rows: &mut [usize], text: &mut [u8]) -> Rep
     requires { ⌜ leastText ≤ length (now text) ⌝ }
     ensures { λ r. ⌜ Gives (answerForAll room (sheetIn (now (t .entry)))) (length (now (rows .entry))) (length (now (text .entry))) r (now (rows .exit)) (now (text .exit)) ⌝ }
 {
-    if room < ALL_ROWS {
+    if room < ALL_PLACES {
         return refuse(TOO_SHORT, 0, 0, rows, text);
     }
     make_all_for(t, rows, text)
@@ -85,23 +78,27 @@ fn judged_in(s: &[u8], room: usize, t: &mut [usize], rows: &mut [usize], text: &
     }
 }
 
-// The same with a table of its own. Clearing it is most of what a small request costs, so a short one has a short table.
+// The same with a table of its own. Clearing it is most of what a small request costs, so a shorter one has a shorter table.
 fn judged(s: &[u8], room: usize, rows: &mut [usize], text: &mut [u8]) -> Reply
     requires { ⌜ (length (now s) ≤ 65536) × (numbersOfOne ≤ length (now rows)) × (leastText ≤ length (now text)) ⌝ }
     requires { ⌜ Wide (now s) room (length (now rows)) ⌝ }
     ensures { λ r. ⌜ Gives (judged (now (s .entry)) room (readRequest (now (s .entry)))) (length (now (rows .entry))) (length (now (text .entry))) r (now (rows .exit)) (now (text .exit)) ⌝ }
 {
-    if s.len() <= SHORT {
-        let mut t = [0usize; SHORT_TABLE];
+    if s.len() <= Sheet::SHORT {
+        let mut t = [0usize; Sheet::SHORT_TABLE];
+        return judged_in(s, room, &mut t, rows, text);
+    }
+    if s.len() <= Sheet::MIDDLE {
+        let mut t = [0usize; Sheet::MIDDLE_TABLE];
         return judged_in(s, room, &mut t, rows, text);
     }
     let mut t = [0usize; Sheet::TABLE];
     judged_in(s, room, &mut t, rows, text)
 }
 
-// The same of any request and any text buffer. The caller has places for so many rows, three numbers each, and lends them as numbers.
+// The same of any request and any text buffer. The caller has places for so many rows, and lends them as numbers.
 fn judge_in(s: &[u8], room: usize, numbers: &mut [usize], text: &mut [u8]) -> Reply
-    requires { ⌜ (512 ≤ room → numbersOfOne ≤ length (now numbers)) ⌝ }
+    requires { ⌜ (placesOfOne ≤ room → numbersOfOne ≤ length (now numbers)) ⌝ }
     requires { ⌜ Wide (now s) room (length (now numbers)) ⌝ }
     ensures { λ r. ⌜ r ≡ replyOf (answerTo (now (s .entry)) room (length (now (text .entry)))) ⌝ }
     ensures { λ r. ⌜ now (numbers .exit) ≡ numbersOf (length (now (numbers .entry))) (answerTo (now (s .entry)) room (length (now (text .entry)))) ⌝ }
@@ -116,11 +113,11 @@ fn judge_in(s: &[u8], room: usize, numbers: &mut [usize], text: &mut [u8]) -> Re
 
 // The entry for callers whose rows are numbers: node, branch and rank of each.
 pub fn judge_numbers(s: &[u8], numbers: &mut [usize], text: &mut [u8]) -> Reply
-    ensures { λ r. ⌜ r ≡ replyOf (answerTo (now (s .entry)) (length (now (numbers .entry)) / 3) (length (now (text .entry)))) ⌝ }
-    ensures { λ r. ⌜ now (numbers .exit) ≡ numbersOf (length (now (numbers .entry))) (answerTo (now (s .entry)) (length (now (numbers .entry)) / 3) (length (now (text .entry)))) ⌝ }
-    ensures { λ r. ⌜ now (text .exit) ≡ bytesOf (length (now (text .entry))) (answerTo (now (s .entry)) (length (now (numbers .entry)) / 3) (length (now (text .entry)))) ⌝ }
+    ensures { λ r. ⌜ r ≡ replyOf (answerTo (now (s .entry)) (length (now (numbers .entry)) / rowWide) (length (now (text .entry)))) ⌝ }
+    ensures { λ r. ⌜ now (numbers .exit) ≡ numbersOf (length (now (numbers .entry))) (answerTo (now (s .entry)) (length (now (numbers .entry)) / rowWide) (length (now (text .entry)))) ⌝ }
+    ensures { λ r. ⌜ now (text .exit) ≡ bytesOf (length (now (text .entry))) (answerTo (now (s .entry)) (length (now (numbers .entry)) / rowWide) (length (now (text .entry)))) ⌝ }
 {
-    let room = numbers.len() / 3;
+    let room = numbers.len() / ROW_WIDE;
     judge_in(s, room, numbers, text)
 }
 
@@ -145,7 +142,7 @@ fn wants_all(s: &[u8], room: usize) -> bool
     ensures { λ r. ⌜ (r ≡ true → placesOfAll ≤ room) ⌝ }
     ensures { λ r. ⌜ (r ≡ false → Wide (now (s .entry)) room numbersOfOne) ⌝ }
 {
-    if room < ALL_ROWS {
+    if room < ALL_PLACES {
         return false;
     }
     ends_in_all(s)
@@ -153,7 +150,7 @@ fn wants_all(s: &[u8], room: usize) -> bool
 
 // What `judge_in` gives, for a caller whose rows are structs: they are filled from numbers, of which enough are lent.
 fn judge_rows(s: &[u8], numbers: &mut [usize], rows: &mut [Row], text: &mut [u8]) -> Reply
-    requires { ⌜ (512 ≤ length (now rows) → (numbersOfOne ≤ length (now numbers)) × (length (now numbers) ≤ 3 * length (now rows))) ⌝ }
+    requires { ⌜ (placesOfOne ≤ length (now rows) → (numbersOfOne ≤ length (now numbers)) × (length (now numbers) ≤ rowWide * length (now rows))) ⌝ }
     requires { ⌜ Wide (now s) (length (now rows)) (length (now numbers)) ⌝ }
     ensures { λ r. ⌜ r ≡ replyOf (answerTo (now (s .entry)) (length (now (rows .entry))) (length (now (text .entry)))) ⌝ }
     ensures { λ r. ⌜ now (numbers .exit) ≡ numbersOf (length (now (numbers .entry))) (answerTo (now (s .entry)) (length (now (rows .entry))) (length (now (text .entry)))) ⌝ }
@@ -193,9 +190,9 @@ pub fn refused_line(number: usize, line: usize, field: usize, text: &mut [u8]) -
 // The text that is printed, at the start of the buffer with zeros behind it: how many bytes it has comes back. An answer has text, so none means refused.
 pub fn judge_text(s: &[u8], numbers: &mut [usize], text: &mut [u8]) -> usize
     ensures { λ r. ⌜ (r ≤ length (now (text .exit))) × (r ≡ length (take r (now (text .exit)))) ⌝ }
-    ensures { λ r. ⌜ take r (now (text .exit)) ≡ textIn (length (now (text .entry))) (answerTo (now (s .entry)) (length (now (numbers .entry)) / 3) (length (now (text .entry)))) ⌝ }
+    ensures { λ r. ⌜ take r (now (text .exit)) ≡ textIn (length (now (text .entry))) (answerTo (now (s .entry)) (length (now (numbers .entry)) / rowWide) (length (now (text .entry)))) ⌝ }
     ensures { λ r. ⌜ drop r (now (text .exit)) ≡ replicate (length (now (text .entry)) - r) 0 ⌝ }
-    ensures { λ r. ⌜ now (numbers .exit) ≡ numbersOf (length (now (numbers .entry))) (answerTo (now (s .entry)) (length (now (numbers .entry)) / 3) (length (now (text .entry)))) ⌝ }
+    ensures { λ r. ⌜ now (numbers .exit) ≡ numbersOf (length (now (numbers .entry))) (answerTo (now (s .entry)) (length (now (numbers .entry)) / rowWide) (length (now (text .entry)))) ⌝ }
 {
     let r = judge_numbers(s, numbers, text);
     if 0 < r.length {

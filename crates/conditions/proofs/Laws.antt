@@ -12,6 +12,7 @@ use Rattle.fields.specs.Field.{wordAt}
 use Rattle.tables.specs.declared.St.{St}
 use Rattle.tables.specs.State.{State, stateOf, cellsOf, moreCells}
 use Rattle.tables.proofs.Laws.{cells-length}
+use Rattle.tables.specs.Entries.{mostCells}
 use Rattle.steps.specs.declared.Read.{Read}
 use Rattle.steps.specs.declared.Read.the-variants.{Value, Bad}
 use Rattle.steps.specs.Steps.{Outcome, next, bad, either, andThen, twice, moved, onSt, Met}
@@ -32,7 +33,7 @@ module _ {s : List ℕ} where
       }
 
   -- a field of two bytes pays for a cell
-  pub room : {st e : St} → HasRoom s st → Took s 2 st e → e .cells < 32768
+  pub room : {st e : St} → HasRoom s st → Took s 2 st e → e .cells < mostCells
   room r k = omega arith
 
   -- as for each before

@@ -11,10 +11,10 @@ ghost use mathlib.Core.Path.{_≡_};
 ghost use Prim.Native.Nat.{_+_, _<_};
 ghost use lib.ListN.{length};
 ghost use Rattle.tables.specs.State.{stateOf, moreCells, Fits};
+ghost use Rattle.tables.specs.Entries.{cellsFrom, Spacious, mostCells};
 ghost use Rattle.steps.specs.Steps.{Met, twice};
 ghost use Rattle.conditions.specs.Words.{conditionCell, expressionCell};
 ghost use Rattle.conditions.specs.Condition.{storeAt, constantAt, secretAt, expressionAt, conditionAt, HasRoom, Kept, Leaves, Within};
-ghost use Rattle.tables.specs.Entries.{cellsFrom, Spacious};
 
 // The words, as numbers in base 256.
 const T: usize = b't' as usize;
@@ -67,7 +67,7 @@ fn expression_cell(w: usize) -> usize
 fn store(st: St, p: usize, left: usize, v: usize, t: &mut [usize]) -> Read
     requires { ⌜ cellsFrom + st .cells < length (now t) ⌝ }
     requires { ⌜ Fits st ⌝ }
-    requires { ⌜ st .cells < 32768 ⌝ }
+    requires { ⌜ st .cells < mostCells ⌝ }
     ensures { λ r. ⌜ Met (λ e. e ≡ moreCells st) (storeAt (st .cells + left) p v (stateOf st (now (t .entry)))) r (now (t .exit)) ⌝ }
     ensures { λ r. ⌜ Leaves (st .cells + left) r ⌝ }
 {

@@ -13,6 +13,7 @@ use Rattle.tables.specs.declared.St.{St}
 use Rattle.tables.specs.declared.Head.{Head}
 use Rattle.tables.specs.State.{State, nodesOf, branchesOf, listedOf, moreNodes, moreBranches, moreListed, withNode, withBranch, nodeEntry, branchEntry}
 use Rattle.tables.proofs.Laws.{nodes-length, branches-length, listed-length}
+use Rattle.tables.specs.Entries.{mostNodes, mostBranches, mostListed}
 use Rattle.steps.specs.Steps.{next, bad, goOn, either, andThen, times}
 use Rattle.steps.proofs.Laws.{Took, Leads}
 use Rattle.conditions.specs.Condition.{conditionAt, HasRoom, Kept}
@@ -46,7 +47,7 @@ module _ {s : List ℕ} where
   added-all left a h =
       record { nodes = a .nodes; branches = a .branches; defs = a .defs; listed = omega arith; cells = a .cells; further = a .further; inside = a .inside }
 
-  pub ready-added : {b l : ℕ} {st e : St} → HasRoom s st → Added s b l st e → st .branches + b ≤ 1024 → st .listed + l ≤ 8960 → HasRoom s e
+  pub ready-added : {b l : ℕ} {st e : St} → HasRoom s st → Added s b l st e → st .branches + b ≤ mostBranches → st .listed + l ≤ mostListed → HasRoom s e
   ready-added r k h i =
       record {
         fits = record { nodes-fit = omega arith; branches-fit = omega arith; defs-fit = omega arith; listed-fit = omega arith; cells-fit = omega arith };
@@ -69,22 +70,22 @@ module _ {s : List ℕ} where
     few-took f k =
         record { few-nodes = omega arith; few-branches = omega arith; few-defs = omega arith; this-def = omega arith; few-listed = omega arith; few-cells = omega arith; inside = omega arith; short = omega arith }
 
-    pub few-node : {e q : St} → Few s lim e → e .nodes < 512 → q ≡ moreNodes e → Few s lim q
+    pub few-node : {e q : St} → Few s lim e → e .nodes < mostNodes → q ≡ moreNodes e → Few s lim q
     few-node f h i =
         subst (Few s lim) (sym i)
         (record { few-nodes = omega arith; few-branches = omega arith; few-defs = omega arith; this-def = omega arith; few-listed = omega arith; few-cells = omega arith; inside = omega arith; short = omega arith })
 
-    pub few-branch : {e q : St} → Few s lim e → e .branches < 1024 → q ≡ moreBranches e → Few s lim q
+    pub few-branch : {e q : St} → Few s lim e → e .branches < mostBranches → q ≡ moreBranches e → Few s lim q
     few-branch f h i =
         subst (Few s lim) (sym i)
         (record { few-nodes = omega arith; few-branches = omega arith; few-defs = omega arith; this-def = omega arith; few-listed = omega arith; few-cells = omega arith; inside = omega arith; short = omega arith })
 
-    pub few-leaf : {st e : St} → Few s lim st → st .branches < 1024 → Added s 1 0 st e → Few s lim e
+    pub few-leaf : {st e : St} → Few s lim st → st .branches < mostBranches → Added s 1 0 st e → Few s lim e
     few-leaf f h k =
         record { few-nodes = omega arith; few-branches = omega arith; few-defs = omega arith; this-def = omega arith; few-listed = omega arith; few-cells = omega arith; inside = omega arith; short = omega arith }
 
     -- after the secrets and the condition of an `r`, with its branch
-    pub few-reveal : {n : ℕ} {st e f q : St} → Few s lim st → st .branches < 1024 → n ≤ 8 → Added s 0 n st e → Kept s e f → q ≡ moreBranches f → Few s lim q
+    pub few-reveal : {n : ℕ} {st e f q : St} → Few s lim st → st .branches < mostBranches → n ≤ 8 → Added s 0 n st e → Kept s e f → q ≡ moreBranches f → Few s lim q
     few-reveal w h m k l i =
         subst (Few s lim) (sym i)
         (record { few-nodes = omega arith; few-branches = omega arith; few-defs = omega arith; this-def = omega arith; few-listed = omega arith; few-cells = omega arith; inside = omega arith; short = omega arith })
@@ -124,7 +125,7 @@ module _ {P : St → Type 0} (s : List ℕ) where
     inside-none d p b w a h r t m = rw h m
 
     pub inside-more : (d p b w : ℕ) (a : State) → (d ≡ 0 → ⊥)
-        → Leads P (either (leb 512 (length (a .nodes))) (bad 7 p) (goOn a (numberAt s (a .at) 16) λ n a₁. times n (readBranch s lim (readContract s lim (d - 1)) (length (a .nodes))) (withNode (nodeEntry (lim .def) b w n) a₁))) (insideAt s lim d p b w a)
+        → Leads P (either (leb mostNodes (length (a .nodes))) (bad 7 p) (goOn a (numberAt s (a .at) 16) λ n a₁. times n (readBranch s lim (readContract s lim (d - 1)) (length (a .nodes))) (withNode (nodeEntry (lim .def) b w n) a₁))) (insideAt s lim d p b w a)
     unfolding insideAt readContract
     inside-more zero p b w a h r t m = absurd (h refl)
     inside-more (suc d) p b w a h r t m = simp (sub-one) at m

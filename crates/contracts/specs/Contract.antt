@@ -7,6 +7,7 @@ use Rattle.fields.specs.Field.{spelled, anyNumber, numberAt, wordAt}
 use Rattle.tables.specs.declared.Head.{Head}
 use Rattle.tables.specs.declared.Action.{Action}
 use Rattle.tables.specs.State.{State, withNode, withBranch, withListed, nodeEntry, branchEntry, among, since}
+use Rattle.tables.specs.Entries.{mostNodes, mostBranches}
 use Rattle.steps.specs.Steps.{Outcome, next, bad, goOn, either, andThen, times}
 use Rattle.conditions.specs.Condition.{conditionAt}
 use Rattle.contracts.specs.declared.Limits.{Limits}
@@ -101,7 +102,7 @@ module _ (s : List ℕ) (lim : Limits) where
   readBranch contract node a =
       goOn a (numberAt s (a .at) anyNumber) λ g a₁.
       either (leb (lim .all) g) (bad 6 (a .at))
-      (either (leb 1024 (length (a .branches))) (bad 7 (a .at))
+      (either (leb mostBranches (length (a .branches))) (bad 7 (a .at))
       (goOn a₁ (numberAt s (a₁ .at) 4294967295) λ t a₂.
       goOn a₂ (wordAt s (a₂ .at)) λ w a₃.
       actionAt contract (record { node = node; signers = g; opens = t }) (a₂ .at) a₃ w))
@@ -110,7 +111,7 @@ module _ (s : List ℕ) (lim : Limits) where
   unfoldable pub insideAt : ℕ → ℕ → ContractReader
   insideAt zero p b w a = bad 7 p
   insideAt (suc d) p b w a =
-      either (leb 512 (length (a .nodes))) (bad 7 p)
+      either (leb mostNodes (length (a .nodes))) (bad 7 p)
       (goOn a (numberAt s (a .at) 16) λ n a₁.
       times n (readBranch (contractWith s (insideAt d)) (length (a .nodes))) (withNode (nodeEntry (lim .def) b w n) a₁))
 

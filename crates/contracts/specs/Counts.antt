@@ -4,13 +4,14 @@ use mathlib.Core.Path.{_≡_}
 use mathlib.Core.List.{List}
 use lib.ListN.{length}
 use Rattle.tables.specs.declared.St.{St}
+use Rattle.tables.specs.Entries.{mostNodes, mostBranches, mostDefs}
 use Rattle.contracts.specs.declared.Limits.{Limits}
 
 -- within the limits, in the definition that is read: a branch lists up to 8 numbers and a definition up to 24, and a cell took two bytes
 pub record Few (s : List ℕ) (lim : Limits) (st : St) : Type 0 where
-  pub few-nodes : st .nodes ≤ 512
-  pub few-branches : st .branches ≤ 1024
-  pub few-defs : st .defs ≤ 32
+  pub few-nodes : st .nodes ≤ mostNodes
+  pub few-branches : st .branches ≤ mostBranches
+  pub few-defs : st .defs ≤ mostDefs
   pub this-def : st .defs ≡ lim .def + 1
   pub few-listed : st .listed ≤ 8 * st .branches + 24 * st .defs
   pub few-cells : 2 * st .cells ≤ st .at

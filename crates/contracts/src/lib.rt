@@ -14,11 +14,11 @@ use tables::put_listed;
 use tables::put_node;
 ghost use Prim.Native.Nat.{_+_, _≤_, _<_};
 ghost use Rattle.tables.specs.State.{stateOf};
+ghost use Rattle.tables.specs.Entries.{Spacious, mostBranches, mostListed};
 ghost use Rattle.steps.specs.Steps.{Met, times};
 ghost use Rattle.conditions.specs.Condition.{HasRoom};
 ghost use Rattle.contracts.specs.Contract.{leafAt, listAt, readContract, readBranch, splitAt, weighedAt, revealAt};
 ghost use Rattle.contracts.specs.Counts.{Few, Added};
-ghost use Rattle.tables.specs.Entries.{Spacious};
 
 // The words, each of one byte.
 const C: usize = b'c' as usize;
@@ -44,7 +44,7 @@ pub struct Limits {
 fn leaf(s: &[u8], st: St, h: Head, kind: usize, limit: usize, t: &mut [usize]) -> Read
     requires { ⌜ Spacious (now s) (now t) ⌝ }
     requires { ⌜ HasRoom (now s) st ⌝ }
-    requires { ⌜ st .branches < 1024 ⌝ }
+    requires { ⌜ st .branches < mostBranches ⌝ }
     ensures { λ r. ⌜ Met (Added (now (s .entry)) 1 0 st) (leafAt (now (s .entry)) h kind limit (stateOf st (now (t .entry)))) r (now (t .exit)) ⌝ }
 {
     let g = num(s, st, Sheet::NUMBER);
@@ -69,7 +69,7 @@ fn leaf(s: &[u8], st: St, h: Head, kind: usize, limit: usize, t: &mut [usize]) -
 fn list(s: &[u8], st: St, secrets: usize, from: usize, t: &mut [usize]) -> Read
     requires { ⌜ Spacious (now s) (now t) ⌝ }
     requires { ⌜ HasRoom (now s) st ⌝ }
-    requires { ⌜ st .listed < 8960 ⌝ }
+    requires { ⌜ st .listed < mostListed ⌝ }
     ensures { λ r. ⌜ Met (Added (now (s .entry)) 0 1 st) (listAt (now (s .entry)) secrets from (stateOf st (now (t .entry)))) r (now (t .exit)) ⌝ }
 {
     let g = num(s, st, Sheet::NUMBER);
@@ -92,7 +92,7 @@ fn list(s: &[u8], st: St, secrets: usize, from: usize, t: &mut [usize]) -> Read
 fn list_all(s: &[u8], st: St, n: usize, secrets: usize, from: usize, t: &mut [usize]) -> Read
     requires { ⌜ Spacious (now s) (now t) ⌝ }
     requires { ⌜ HasRoom (now s) st ⌝ }
-    requires { ⌜ st .listed + n ≤ 8960 ⌝ }
+    requires { ⌜ st .listed + n ≤ mostListed ⌝ }
     ensures { λ r. ⌜ Met (Added (now (s .entry)) 0 n st) (times n (listAt (now (s .entry)) secrets from) (stateOf st (now (t .entry)))) r (now (t .exit)) ⌝ }
 {
     let mut cur = st;
@@ -197,7 +197,7 @@ fn branch(s: &[u8], st: St, depth: usize, node: usize, lim: Limits, t: &mut [usi
 fn split(s: &[u8], st: St, h: Head, depth: usize, lim: Limits, t: &mut [usize]) -> Read
     requires { ⌜ Spacious (now s) (now t) ⌝ }
     requires { ⌜ Few (now s) lim st ⌝ }
-    requires { ⌜ st .branches < 1024 ⌝ }
+    requires { ⌜ st .branches < mostBranches ⌝ }
     ensures { λ r. ⌜ Met (Few (now (s .entry)) lim) (splitAt (now (s .entry)) (readContract (now (s .entry)) lim depth) h (stateOf st (now (t .entry)))) r (now (t .exit)) ⌝ }
 {
     let g = num(s, st, Sheet::PARTS);
@@ -260,7 +260,7 @@ fn weighed(
 fn reveal(s: &[u8], st: St, h: Head, depth: usize, lim: Limits, t: &mut [usize]) -> Read
     requires { ⌜ Spacious (now s) (now t) ⌝ }
     requires { ⌜ Few (now s) lim st ⌝ }
-    requires { ⌜ st .branches < 1024 ⌝ }
+    requires { ⌜ st .branches < mostBranches ⌝ }
     ensures { λ r. ⌜ Met (Few (now (s .entry)) lim) (revealAt (now (s .entry)) (lim .secrets) (readContract (now (s .entry)) lim depth) h (stateOf st (now (t .entry)))) r (now (t .exit)) ⌝ }
 {
     let g = num(s, st, Sheet::SECRETS);

@@ -18,7 +18,7 @@ use Rattle.bitml.proofs.Lists.{at-set, at-replicate}
 use Rattle.tables.specs.Entries.{held, people, firstOf}
 use Rattle.tables.specs.SheetOf.{defEntryAt, sheetOf, sheetIn}
 use Rattle.tables.proofs.SheetOf.{root-is, deposits-are}
-use Rattle.tables.proofs.Laws.{firstOf-agree, firstOf-length, firstOf-getD}
+use Rattle.tables.proofs.Runs.{firstOf-agree, firstOf-length, firstOf-getD}
 use Rattle.sheets.specs.Ready.{Ready}
 use Rattle.duties.specs.Duties.{depositsOf, committed, stateOf}
 use Rattle.duties.proofs.Sums.{deposits-most}

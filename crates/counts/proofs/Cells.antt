@@ -17,7 +17,7 @@ use Rattle.bitml.specs.Limits.{limitedRefusal, limitedStep}
 use Rattle.bitml.proofs.Lists.{and-true}
 use Rattle.tables.specs.Entries.{people, firstOf}
 use Rattle.tables.specs.SheetOf.{sheetIn}
-use Rattle.tables.proofs.Laws.{firstOf-length, firstOf-getD, firstOf-past}
+use Rattle.tables.proofs.Runs.{firstOf-length, firstOf-getD, firstOf-past}
 use Rattle.sheets.proofs.Bits.{bit, two}
 use Rattle.pages.specs.Pages.{size, pagesIn}
 use Rattle.counts.specs.declared.Counts.{Counts}

@@ -12,7 +12,7 @@ use Rattle.bitml.specs.Answers.{endOf, endLine}
 use Rattle.bitml.proofs.Lists.{getD-up, length-up}
 use Rattle.tables.specs.Entries.{firstOf}
 use Rattle.tables.proofs.SheetOf.{map-map}
-use Rattle.tables.proofs.Laws.{firstOf-length, firstOf-getD}
+use Rattle.tables.proofs.Runs.{firstOf-length, firstOf-getD}
 use Rattle.duties.proofs.Sums.{sumFrom}
 use Rattle.counts.specs.Book.{Book}
 use Rattle.counts.specs.View.{aliveAt, view, contractOf, liveOf}

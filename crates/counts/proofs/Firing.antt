@@ -17,7 +17,7 @@ use Rattle.bitml.proofs.Lists.{at-set, and-i, and-false, and-true, and-no, ask-
 use Rattle.bitml.proofs.Balance.{dead-locked, getD-sum}
 use Rattle.tables.specs.Entries.{held, people, firstOf}
 use Rattle.tables.specs.SheetOf.{branchEntryAt, branchCount, branchNumber, actionOf, branchOf, sheetOf, sheetIn}
-use Rattle.tables.proofs.Laws.{firstOf-getD, firstOf-set}
+use Rattle.tables.proofs.Runs.{firstOf-getD, firstOf-set}
 use Rattle.sheets.specs.Ready.{Ready}
 use Rattle.duties.specs.Duties.{covers, notYet}
 use Rattle.counts.specs.Book.{Book}

@@ -19,7 +19,7 @@ use Rattle.bitml.proofs.Balance.{bringing, kept-after, taken-after}
 use Rattle.tables.specs.Entries.{held, people}
 use Rattle.tables.specs.SheetOf.{branchCount, branchNumber, branchOf, sheetOf, sheetIn}
 use Rattle.tables.proofs.SheetOf.{count-of, branch-of, branch-small}
-use Rattle.tables.proofs.Laws.{firstOf-length, firstOf-getD, firstOf-past}
+use Rattle.tables.proofs.Runs.{firstOf-length, firstOf-getD, firstOf-past}
 use Rattle.sheets.specs.Ready.{Ready}
 use Rattle.duties.proofs.Payable.{payable}
 use Rattle.counts.specs.Book.{Book}

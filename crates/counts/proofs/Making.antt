@@ -12,7 +12,7 @@ use Rattle.bitml.specs.Ledger.{Contract, newContract}
 use Rattle.bitml.proofs.Lists.{at-set, and-no}
 use Rattle.bitml.proofs.Counting.{at-store}
 use Rattle.tables.specs.Entries.{held, firstOf}
-use Rattle.tables.proofs.Laws.{firstOf-more}
+use Rattle.tables.proofs.Runs.{firstOf-more}
 use Rattle.sheets.proofs.Bits.{bit, none-zero}
 use Rattle.counts.specs.Book.{Book}
 use Rattle.counts.specs.View.{contractOf, signedBy}

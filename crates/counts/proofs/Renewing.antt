@@ -19,7 +19,7 @@ use Rattle.bitml.proofs.Balance.{bringing}
 use Rattle.tables.specs.Entries.{held, people, firstOf}
 use Rattle.tables.specs.SheetOf.{branchEntryAt, defEntryAt, branchCount, branchNumber, actionOf, sheetIn}
 use Rattle.tables.proofs.SheetOf.{root-is, deposits-are, owner-count}
-use Rattle.tables.proofs.Laws.{firstOf-agree, firstOf-more}
+use Rattle.tables.proofs.Runs.{firstOf-agree, firstOf-more}
 use Rattle.sheets.specs.Ready.{Ready}
 use Rattle.duties.specs.Duties.{notYet, depositsOf, given, committed, stateOf}
 use Rattle.duties.proofs.Sums.{deposits-most}

@@ -16,7 +16,7 @@ use Rattle.bitml.specs.Limits.{within}
 use Rattle.bitml.proofs.Lists.{at-set, and-i, and-false, and-true, and-no, or-l, ask-no, ask-yes}
 use Rattle.tables.specs.Entries.{held, people, firstOf}
 use Rattle.tables.specs.SheetOf.{branchEntryAt, branchCount, branchNumber, branchOf, sheetIn}
-use Rattle.tables.proofs.Laws.{firstOf-set}
+use Rattle.tables.proofs.Runs.{firstOf-set}
 use Rattle.sheets.specs.Ready.{Ready}
 use Rattle.sheets.proofs.Bits.{bit}
 use Rattle.duties.proofs.Signing.{bit-clear, bit-put, bit-others, mask-room}

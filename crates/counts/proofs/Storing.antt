@@ -11,7 +11,7 @@ use borrow.Author.Tests.{ne-eqb}
 use Rattle.bitml.specs.Ledger.{Commitment, ill, commit}
 use Rattle.bitml.proofs.Lists.{at-set}
 use Rattle.tables.specs.Entries.{firstOf}
-use Rattle.tables.proofs.Laws.{firstOf-length, firstOf-getD}
+use Rattle.tables.proofs.Runs.{firstOf-length, firstOf-getD}
 use Rattle.duties.specs.Duties.{committed, stateOf}
 use Rattle.pages.specs.Pages.{Pages, size, pagesIn, put, withSecret, nodes, balances, setNumbers, lives, definitions, secretCounts, states, values, payments, signatures}
 use Rattle.pages.proofs.Laws.{page-long}

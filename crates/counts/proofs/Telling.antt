@@ -11,7 +11,7 @@ use Rattle.bitml.specs.Limits.{within}
 use Rattle.bitml.proofs.Lists.{at-set, ask-no, ask-yes}
 use Rattle.tables.specs.Entries.{people, firstOf}
 use Rattle.tables.specs.SheetOf.{sheetIn}
-use Rattle.tables.proofs.Laws.{firstOf-agree, firstOf-set}
+use Rattle.tables.proofs.Runs.{firstOf-agree, firstOf-set}
 use Rattle.sheets.specs.Ready.{Ready}
 use Rattle.counts.specs.Book.{Book}
 use Rattle.counts.specs.View.{view, contractOf, setOf, secretOf, commitmentOf}

@@ -1,7 +1,7 @@
 -- What `make` printed is read as the rows of `check`, and accepted; and so is every file, once sorted, that only its order was against.
 -- Assumes nothing.
 use mathlib.Core.Path.{_≡_, refl, sym, ap, ap₂, _∙_, subst}
-use Prim.Native.Nat.{ℕ, suc, _+_, _≤_, _<_}
+use Prim.Native.Nat.{ℕ, suc, _+_, _≤_, _<_, _*_}
 use native.Mathlib.Omega.{arith}
 use mathlib.Core.List.{List, [], _∷_, _++_, map, List·Permᴰ, List·Permᴰ·nil, List·Permᴰ·cons, List·Permᴰ·swap, List·Permᴰ·trans}
 use lib.ListN.{length, getD, length-append}
@@ -14,14 +14,15 @@ use Rattle.bitml.specs.Rows as rule-rows
 use Rattle.bitml.specs.Sorting.{sorted}
 use Rattle.bitml.specs.Rule.{rows}
 use Rattle.bitml.specs.Rule as rule
-use Rattle.bitml.specs.Answers.{rowLine, liquidLine, printed, liquidBy, madeLines, madeRows, madeBy, checkedBy, answer}
+use Rattle.bitml.specs.Answers.{rowLine, liquidLine, printed, liquidBy, madeLines, madeRows, madeBy, checkedBy, answer, placesOfOne}
 use Rattle.bitml.proofs.Lists.{all-imp}
 use Rattle.bitml.proofs.Sorting.{perm-all, perm-rank}
 use Rattle.bitml.proofs.Demands.{demands}
 use Rattle.tables.specs.Entries.{Entries}
 use Rattle.tables.specs.SheetOf.{nodeEntryAt, sheetOf}
+use Rattle.buffer.specs.Buffer.{row}
 use Rattle.lines.specs.Sheet.{accepted, readSheet}
-use Rattle.requests.specs.Rows.{RowFits, row}
+use Rattle.requests.specs.Rows.{RowFits}
 use Rattle.reading.specs.Promises.{Promises}
 use Rattle.reading.specs.Request.{request, make, check, readRequest}
 use Rattle.reading.proofs.Formed.{well-formed}
@@ -75,8 +76,8 @@ module _ (t : List ℕ) (K : ℕ) (E : Entries) (h : readSheet t ≡ accepted K 
   unfolding madeRows
   made-are = ap madeRows (both .0)
 
-  few : length R ≤ 512
-  few = subst (λ Q. length Q ≤ 512) made-are (made-few K E promises p)
+  few : length R ≤ placesOfOne
+  few = subst (λ Q. length Q ≤ placesOfOne) made-are (made-few K E promises p)
 
   fit : All (λ r. RowFits (λ n. nodeEntryAt E n .count) (length (E .nodes)) r × Short r) R
   fit = subst (All (λ r. RowFits (λ n. nodeEntryAt E n .count) (length (E .nodes)) r × Short r)) made-are (made-printed K E promises p)
@@ -85,11 +86,11 @@ module _ (t : List ℕ) (K : ℕ) (E : Entries) (h : readSheet t ≡ accepted K 
   unfolding fileOf
   read-as = check-reads t K E h p l R few (all-imp (λ r z. z .0) fit)
 
-  file-short : length (fileOf R) ≤ 8192
+  file-short : length (fileOf R) ≤ 16 * placesOfOne
   unfolding fileOf
   file-short = let a : All Short R = all-imp (λ r z. z .1) fit in omega (arith, rows-short a, few)
 
-  module _ (places text : ℕ) (hp : 512 ≤ places) (ht : leastText ≤ text) where
+  module _ (places text : ℕ) (hp : placesOfOne ≤ places) (ht : leastText ≤ text) where
     fits : (s : List ℕ) → length s ≤ 65536 → Room s places text
     fits s k = record { bytes = k; enough-places = hp; enough-text = ht }
 

@@ -8,7 +8,7 @@ use Rattle.bitml.specs.Runs.{Liquid}
 use Rattle.bitml.specs.Rows.{Row, InAnyOrder}
 use Rattle.bitml.specs.Sorting.{sorted}
 use Rattle.bitml.specs.Rule.{rows}
-use Rattle.bitml.specs.Answers.{rowLine, liquidBy}
+use Rattle.bitml.specs.Answers.{rowLine, liquidBy, placesOfOne}
 use Rattle.tables.specs.Entries.{Entries}
 use Rattle.tables.specs.SheetOf.{sheetOf}
 use Rattle.lines.specs.Sheet.{accepted, readSheet}
@@ -48,7 +48,7 @@ pub record OfFiles : Type 0 where
   -- For every text of a sheet, every P for whom it is liquid, and all buffers that are long enough
   pub made : (t : List ℕ) (K : ℕ) (E : Entries) → readSheet t ≡ accepted K (length t) E
       → (p : ℕ) → p < K → Liquid (sheetOf K E) p
-      → (places text : ℕ) → 512 ≤ places → leastText ≤ text → Exchanged t places text K E p
+      → (places text : ℕ) → placesOfOne ≤ places → leastText ≤ text → Exchanged t places text K E p
   -- and for every file that is read as rows that only their order is against
   pub sorted : (t : List ℕ) (K : ℕ) (E : Entries) → readSheet t ≡ accepted K (length t) E
       → (p : ℕ) (R : List Row) → readRequest (checkRequest t p (fileOf R)) ≡ request K E (check p R) → InAnyOrder (sheetOf K E) p R

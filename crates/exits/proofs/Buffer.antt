@@ -3,8 +3,8 @@ use mathlib.Core.Path.{_≡_, refl, sym, ap, ap₂, _∙_, subst}
 use Prim.Native.Nat.{ℕ, suc, _+_, _-_, _*_, _≤_, _<_}
 use native.Mathlib.Omega.{arith}
 use mathlib.Core.Bool.{Bool, true, false, cond}
-use mathlib.Core.List.{List, [], _∷_, _++_, map, append-assoc, append-nil, List·Memᴰ}
-use lib.ListN.{length, getD, set, replicate, length-set, length-append}
+use mathlib.Core.List.{List, [], _∷_, _++_, map, append-nil, List·Memᴰ}
+use lib.ListN.{length, getD, length-append}
 use lib.Dec.{eqb, ltb}
 use borrow.Author.Tests.{ne-eqb, lt-ltb, ltb-true, eqb-true, eqb-false}
 use Rattle.bitml.specs.Lists.{_&_, keep, below, upFrom, All}
@@ -16,14 +16,14 @@ use Rattle.bitml.proofs.Counting.{keep-cong, keep-append, up-split, up-one, up-
 use Rattle.tables.specs.Entries.{Entries}
 use Rattle.tables.specs.SheetOf.{sheetOf}
 use Rattle.tables.proofs.SheetOf.{nodes-are}
+use Rattle.buffer.specs.Buffer.{rowWide, row, stored, filled}
+use Rattle.buffer.proofs.Buffer.{stored-length, filled-stored}
 use Rattle.reading.specs.Promises.{Promises}
-use Rattle.buffer.specs.Filled.{flat, filled}
-use Rattle.buffer.proofs.Filled.{flat-length, flat-append}
 use Rattle.reached.specs.Marks.{MarksReached}
 use Rattle.reached.proofs.Reaching.{first-reached, reached-small}
 use Rattle.exits.specs.declared.Verdict.the-variants.{Liquid, Frozen}
 use Rattle.exits.specs.Costs.{Ranks}
-use Rattle.exits.specs.Made.{answerOf, bufferOf, stuckBy, firstOr, markedBy, rowBy, rowsBy, put}
+use Rattle.exits.specs.Made.{answerOf, bufferOf, stuckBy, firstOr, markedBy, rowBy, rowsBy}
 
 -- ---- counting up
 
@@ -57,31 +57,7 @@ module _ (M R : List ℕ) (n : ℕ) where
       go true = refl
       go false = refl
 
--- ---- the buffer
-
-put-three : (F ys : List ℕ) (a b c : ℕ) → set (set (set (F ++ 0 ∷ 0 ∷ 0 ∷ ys) (length F) a) (suc (length F)) b) (suc (suc (length F))) c ≡ F ++ a ∷ b ∷ c ∷ ys
-put-three [] ys a b c = refl
-put-three (x ∷ F) ys a b c = ap (λ zs. x ∷ zs) (put-three F ys a b c)
-
-pub filled-put : (L j : ℕ) (rs : List Row) (r : Row) → j ≡ length rs → 3 * j + 3 ≤ L → put (filled L rs) j (r .node) (r .branch) (r .rank) ≡ filled L (rs ++ (r ∷ []))
-unfolding filled flat
-filled-put L j rs r e h =
-    let F = flat rs in
-    let m = L - (3 * length rs + 3) in
-    let z : L - 3 * length rs ≡ suc (suc (suc m)) = omega arith in
-    let l = flat-length rs in
-    let i₀ : 3 * j ≡ length F = omega arith in
-    let i₁ : 3 * j + 1 ≡ suc (length F) = omega arith in
-    let i₂ : 3 * j + 2 ≡ suc (suc (length F)) = omega arith in
-    let w : m ≡ L - 3 * length (rs ++ (r ∷ [])) = omega (arith, length-append rs (r ∷ [])) in
-    let Y = F ++ 0 ∷ 0 ∷ 0 ∷ replicate m 0 in
-    ap (λ k. put (F ++ replicate k 0) j (r .node) (r .branch) (r .rank)) z
-    ∙ ap (λ i. set (set (set Y i (r .node)) (3 * j + 1) (r .branch)) (3 * j + 2) (r .rank)) i₀
-    ∙ ap (λ i. set (set (set Y (length F) (r .node)) i (r .branch)) (3 * j + 2) (r .rank)) i₁
-    ∙ ap (λ i. set (set (set Y (length F) (r .node)) (suc (length F)) (r .branch)) i (r .rank)) i₂
-    ∙ put-three F (replicate m 0) (r .node) (r .branch) (r .rank)
-    ∙ sym (append-assoc F (r .node ∷ r .branch ∷ r .rank ∷ []) (replicate m 0))
-    ∙ ap₂ (λ xs k. xs ++ replicate k 0) (sym (flat-append rs (r ∷ []))) w
+-- ---- the rows of marked nodes
 
 module _ (M R B : List ℕ) (i : ℕ) where
   rows-next : rowsBy M R B (i + 1) ≡ rowsBy M R B i ++ map (rowBy R B) (keep (markedBy M) (i ∷ []))
@@ -114,12 +90,12 @@ pub put-none : (M R B ys : List ℕ) → ys ≡ filled (length ys) [] → Put M 
 unfolding rowsBy
 put-none M R B ys e = record { few = omega arith; long = refl; count = refl; is = e }
 
-pub put-step : (M R B xs ys : List ℕ) (L i j j′ : ℕ) → Put M R B xs L i j → 3 * j + 3 ≤ L
-    → j′ ≡ cond (eqb (getD M i 0) 0) j (j + 1) → ys ≡ cond (eqb (getD M i 0) 0) xs (put xs j i (getD B i 0) (getD R i 0)) → Put M R B ys L (i + 1) j′
+pub put-step : (M R B xs ys : List ℕ) (L i j j′ : ℕ) → Put M R B xs L i j → rowWide * j + rowWide ≤ L
+    → j′ ≡ cond (eqb (getD M i 0) 0) j (j + 1) → ys ≡ cond (eqb (getD M i 0) 0) xs (stored xs j (row i (getD B i 0) (getD R i 0))) → Put M R B ys L (i + 1) j′
 unfolding rowBy
 put-step M R B xs ys L i j j′ r h = go (eqb (getD M i 0) 0) refl
   where
-    go : (b : Bool) → eqb (getD M i 0) 0 ≡ b → j′ ≡ cond b j (j + 1) → ys ≡ cond b xs (put xs j i (getD B i 0) (getD R i 0)) → Put M R B ys L (i + 1) j′
+    go : (b : Bool) → eqb (getD M i 0) 0 ≡ b → j′ ≡ cond b j (j + 1) → ys ≡ cond b xs (stored xs j (row i (getD B i 0) (getD R i 0))) → Put M R B ys L (i + 1) j′
     go true e f g =
         let k = rows-skip M R B i (eqb-true _ _ e) in
         record {
@@ -132,9 +108,9 @@ put-step M R B xs ys L i j j′ r h = go (eqb (getD M i 0) 0) refl
         let k = rows-take M R B i (eqb-false _ _ e) in
         record {
           few = omega (arith, r .few);
-          long = ap (λ x. length x) g ∙ length-set (set (set xs (3 * j) i) (3 * j + 1) (getD B i 0)) (3 * j + 2) (getD R i 0) ∙ length-set (set xs (3 * j) i) (3 * j + 1) (getD B i 0) ∙ length-set xs (3 * j) i ∙ r .long;
+          long = ap (λ x. length x) g ∙ stored-length xs j _ ∙ r .long;
           count = f ∙ (let z : j + 1 ≡ length (rowsBy M R B i) + 1 = omega (arith, r .count) in z) ∙ sym (length-append (rowsBy M R B i) (rowBy R B i ∷ [])) ∙ ap (λ x. length x) (sym k);
-          is = g ∙ ap (λ x. put x j i (getD B i 0) (getD R i 0)) (r .is) ∙ filled-put L j (rowsBy M R B i) (rowBy R B i) (r .count) h ∙ ap (filled L) (sym k);
+          is = g ∙ ap₂ (λ x m. stored x m (rowBy R B i)) (r .is) (r .count) ∙ filled-stored L (rowsBy M R B i) (rowBy R B i) (omega (arith, r .count)) ∙ ap (filled L) (sym k);
         }
 
 -- ---- what is made
@@ -163,7 +139,7 @@ module _ (K : ℕ) (E : Entries) (p : ℕ) (ok : Promises K E) (M R B : List ℕ
   unfolding rowsBy rows rowBy rowFor
   rows-are =
       map-cong _ _ _ (λ m h. let l = all-of (keep-imp (markedBy M) (below (length (E .nodes))) (up-mem 0 (length (E .nodes)))) h in
-      ap₂ (λ b k. record { node = m; branch = b; rank = k }) (rk .branch m (omega arith) (omega (arith, l))) (rk .rank m (omega arith) (omega (arith, l))))
+      ap₂ (row m) (rk .branch m (omega arith) (omega (arith, l))) (rk .rank m (omega arith) (omega (arith, l))))
       ∙ ap (map (rowFor (sheetOf K E) p)) (keep-cong (markedBy M) (reached (sheetOf K E)) (below (length (E .nodes))) (λ m h. marked-is m)
       ∙ ap (λ k. keep (reached (sheetOf K E)) (below k)) (sym (nodes-are K E)))
 

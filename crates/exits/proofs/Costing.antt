@@ -14,14 +14,14 @@ use Rattle.bitml.specs.Rule as rule
 use Rattle.bitml.specs.Rule.{costOf, better, choose}
 use Rattle.bitml.proofs.Lists.{all-head}
 use Rattle.bitml.proofs.Counting.{up-one, up-end}
-use Rattle.tables.specs.Entries.{Entries}
+use Rattle.tables.specs.Entries.{Entries, mostNodes}
 use Rattle.tables.specs.SheetOf.{sheetOf, branchOf, branchEntryAt, branchNumber, partNumbers, partNumber, partCount}
 use Rattle.tables.proofs.SheetOf.{all-in, parts-are, parts-none, parts-split, parts-reveal}
 use Rattle.owning.proofs.Owning.{own-below}
 use Rattle.exits.specs.Costs.{ranksAt, served, branchCost, Ranked, chosenFrom}
 
 module _ (E : Entries) (R : List ℕ) (b i : ℕ) where
-  pub ranked-at : Ranked R (partNumbers E b) → i < partCount E b → (partNumber E b i < 512) × (getD R (partNumber E b i) 0 ≤ 512)
+  pub ranked-at : Ranked R (partNumbers E b) → i < partCount E b → (partNumber E b i < mostNodes) × (getD R (partNumber E b i) 0 ≤ mostNodes)
   unfolding Ranked partCount partNumber
   ranked-at h l = all-in (partNumbers E b) i h l
 
@@ -81,7 +81,7 @@ module _ (K : ℕ) (E : Entries) (p n b : ℕ) (R : List ℕ) where
   unfolding ranksAt
   cost-reveal e k = cost-own (branchEntryAt E b .arg ∷ []) e (parts-reveal E b k)
 
-  pub ranked-reveal : branchEntryAt E b .kind ≡ 2 → Ranked R (parts (branchOf E b .action)) → (branchEntryAt E b .arg < 512) × (getD R (branchEntryAt E b .arg) 0 ≤ 512)
+  pub ranked-reveal : branchEntryAt E b .kind ≡ 2 → Ranked R (parts (branchOf E b .action)) → (branchEntryAt E b .arg < mostNodes) × (getD R (branchEntryAt E b .arg) 0 ≤ mostNodes)
   unfolding Ranked
   ranked-reveal k h = all-head (rw (parts-reveal E b k) at h)
 

@@ -12,7 +12,7 @@ use Rattle.bitml.specs.Rule.{cost, costOf, choose, rankAt, choiceAt}
 use Rattle.bitml.proofs.Exits.{choice-is, choose-cong}
 use Rattle.bitml.proofs.Lists.{all-mem, all-of, map-cong, up-mem}
 use Rattle.bitml.proofs.Counting.{at-store}
-use Rattle.tables.specs.Entries.{Entries}
+use Rattle.tables.specs.Entries.{Entries, mostNodes}
 use Rattle.tables.specs.SheetOf.{sheetOf, branchOf, branchCount, branchNumber}
 use Rattle.tables.proofs.SheetOf.{count-of, branch-of, nodes-are}
 use Rattle.reading.specs.Promises.{Promises}
@@ -56,5 +56,5 @@ module _ (K : ℕ) (E : Entries) (p : ℕ) (ok : Promises K E) (R B : List ℕ) 
             (λ ne. r .branch m (let f : m ≡ n → ⊥ = ne in omega arith) b) (λ z. ap (λ o. o .branch) q ∙ ap (λ j. choiceAt (sheetOf K E) p j .branch) (sym z));
       }
 
-  pub ranks-none : length R ≡ 512 → length B ≡ 512 → Ranks K E p R B (length (E .nodes))
+  pub ranks-none : length R ≡ mostNodes → length B ≡ mostNodes → Ranks K E p R B (length (E .nodes))
   ranks-none e f = record { long = e; wide = f; rank = λ m a b. absurd (omega arith); branch = λ m a b. absurd (omega arith) }

@@ -10,7 +10,7 @@ use Rattle.bitml.specs.Sheet.{parts}
 use Rattle.bitml.specs.Runs.{own}
 use Rattle.bitml.specs.Rule as rule
 use Rattle.bitml.specs.Rule.{rankAt, choiceAt}
-use Rattle.tables.specs.Entries.{Entries}
+use Rattle.tables.specs.Entries.{Entries, mostNodes}
 use Rattle.tables.specs.SheetOf.{sheetOf, branchOf, branchNumber}
 use Rattle.exits.specs.declared.Choice.{Choice}
 
@@ -29,7 +29,7 @@ branchCost K E p n b R = rule.costOf (own (sheetOf K E) p n (branchOf E b)) (ran
 
 -- The contracts ms are nodes, and no rank of theirs is above the number of nodes
 unfoldable pub Ranked : List ℕ → List ℕ → Type 0
-Ranked R ms = All (λ m. (m < 512) × (getD R m 0 ≤ 512)) ms
+Ranked R ms = All (λ m. (m < mostNodes) × (getD R m 0 ≤ mostNodes)) ms
 
 abbrev pub asChoice : Choice → rule.Choice
 asChoice c = record { branch = c .branch; rank = c .rank }
@@ -40,7 +40,7 @@ chosenFrom K E p n R i k = rule.choose (λ b. branchCost K E p n (branchNumber E
 
 -- From node i on, R has the ranks and B the chosen branches
 pub record Ranks (K : ℕ) (E : Entries) (p : ℕ) (R B : List ℕ) (i : ℕ) : Type 0 where
-  pub long : length R ≡ 512
-  pub wide : length B ≡ 512
+  pub long : length R ≡ mostNodes
+  pub wide : length B ≡ mostNodes
   pub rank : (m : ℕ) → i ≤ m → m < length (E .nodes) → getD R m 0 ≡ rankAt (sheetOf K E) p m
   pub branch : (m : ℕ) → i ≤ m → m < length (E .nodes) → getD B m 0 ≡ choiceAt (sheetOf K E) p m .branch

@@ -1,14 +1,14 @@
 -- The answer and the row buffer, by what the published rule makes. Assumes nothing.
-use Prim.Native.Nat.{ℕ, _+_, _*_}
+use Prim.Native.Nat.{ℕ}
 use mathlib.Core.Bool.{Bool}
 use mathlib.Core.List.{List, [], _∷_, map}
-use lib.ListN.{length, getD, set}
+use lib.ListN.{length, getD}
 use lib.Dec.{eqb, ltb}
 use Rattle.bitml.specs.Lists.{_&_, keep, below}
 use Rattle.bitml.specs.Rows.{Row, rankOf}
 use Rattle.bitml.specs.Rule as rule
 use Rattle.bitml.specs.Rule.{liquid, frozen}
-use Rattle.buffer.specs.Filled.{flat, filled}
+use Rattle.buffer.specs.Buffer.{row, filled}
 use Rattle.exits.specs.declared.Verdict.{Verdict}
 use Rattle.exits.specs.declared.Verdict.the-variants.{Liquid, Frozen}
 
@@ -35,11 +35,7 @@ unfoldable pub markedBy : List ℕ → ℕ → Bool
 markedBy M n = ltb 0 (getD M n 0)
 
 unfoldable pub rowBy : List ℕ → List ℕ → ℕ → Row
-rowBy R B n = record { node = n; branch = getD B n 0; rank = getD R n 0 }
+rowBy R B n = row n (getD B n 0) (getD R n 0)
 
 unfoldable pub rowsBy : List ℕ → List ℕ → List ℕ → ℕ → List Row
 rowsBy M R B n = map (rowBy R B) (keep (markedBy M) (below n))
-
--- Row j stored
-abbrev pub put : List ℕ → ℕ → ℕ → ℕ → ℕ → List ℕ
-put xs j a b c = set (set (set xs (3 * j) a) (3 * j + 1) b) (3 * j + 2) c

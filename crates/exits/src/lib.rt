@@ -1,5 +1,6 @@
 // Ranks and the published rows.
 use buffer::clear;
+use buffer::put_row;
 use owning::own;
 use sheets::branch_arg;
 use sheets::branch_count;
@@ -19,13 +20,13 @@ ghost use lib.ListN.{length};
 ghost use Rattle.bitml.specs.Lists.{keep, below};
 ghost use Rattle.bitml.specs.Sheet.{parts};
 ghost use Rattle.bitml.specs.Rule as rule;
-ghost use Rattle.tables.specs.Entries.{held, people};
+ghost use Rattle.tables.specs.Entries.{held, people, mostNodes};
 ghost use Rattle.tables.specs.SheetOf.{branchCount, branchNumber, partNumbers, branchOf, sheetIn};
+ghost use Rattle.buffer.specs.Buffer.{rowWide, row, stored, filled, numbersOfOne};
 ghost use Rattle.sheets.specs.Ready.{Ready, Indexed};
-ghost use Rattle.buffer.specs.Filled.{filled};
 ghost use Rattle.reached.specs.Marks.{MarksReached};
 ghost use Rattle.exits.specs.Costs.{ranksAt, served, branchCost, Ranked, asChoice, chosenFrom, Ranks};
-ghost use Rattle.exits.specs.Made.{answerOf, bufferOf, stuckBy, firstOr, rowsBy, put};
+ghost use Rattle.exits.specs.Made.{answerOf, bufferOf, stuckBy, firstOr, rowsBy};
 
 pub struct Choice {
     pub branch: usize,
@@ -138,7 +139,7 @@ fn rank_all(
     x: &[usize],
 )
     requires { ⌜ Ready (now t) ⌝ }
-    requires { ⌜ (p < people (now t)) × (length (now ranks) ≡ 512) × (length (now branches) ≡ 512) ⌝ }
+    requires { ⌜ (p < people (now t)) × (length (now ranks) ≡ mostNodes) × (length (now branches) ≡ mostNodes) ⌝ }
     requires { ⌜ Indexed (held (now t)) (now x) ⌝ }
     ensures { λ _. ⌜ Ranks (people (now (t .entry))) (held (now (t .entry))) p (now (ranks .exit)) (now (branches .exit)) 0 ⌝ }
 {
@@ -153,7 +154,7 @@ fn rank_all(
 
 // The lowest of the first n nodes that has a mark and no rank; n where there is none.
 fn first_stuck(marks: &[usize; Sheet::NODES], ranks: &[usize; Sheet::NODES], n: usize) -> usize
-    requires { ⌜ n ≤ 512 ⌝ }
+    requires { ⌜ n ≤ mostNodes ⌝ }
     ensures { λ r. ⌜ r ≡ firstOr n (keep (stuckBy (now (marks .entry)) (now (ranks .entry))) (below n)) ⌝ }
 {
     let mut i = 0;
@@ -168,8 +169,8 @@ fn first_stuck(marks: &[usize; Sheet::NODES], ranks: &[usize; Sheet::NODES], n: 
     n
 }
 
-// Row j, if there is a mark; the count of rows comes back.
-fn put_row(
+// A row into place j, if there is a mark; the count of rows comes back.
+fn put_marked(
     rows: &mut [usize],
     j: usize,
     mark: usize,
@@ -177,16 +178,14 @@ fn put_row(
     branch: usize,
     rank: usize,
 ) -> usize
-    requires { ⌜ 3 * j + 3 ≤ length (now rows) ⌝ }
+    requires { ⌜ rowWide * j + rowWide ≤ length (now rows) ⌝ }
     ensures { λ r. ⌜ r ≡ cond (eqb mark 0) j (j + 1) ⌝ }
-    ensures { λ r. ⌜ now (rows .exit) ≡ cond (eqb mark 0) (now (rows .entry)) (put (now (rows .entry)) j node branch rank) ⌝ }
+    ensures { λ r. ⌜ now (rows .exit) ≡ cond (eqb mark 0) (now (rows .entry)) (stored (now (rows .entry)) j (row node branch rank)) ⌝ }
 {
     if mark == 0 {
         return j;
     }
-    rows[3 * j] = node;
-    rows[3 * j + 1] = branch;
-    rows[3 * j + 2] = rank;
+    put_row(rows, j, node, branch, rank);
     j + 1
 }
 
@@ -198,7 +197,7 @@ fn put_rows<'a>(
     n: usize,
     rows: &mut [usize],
 ) -> usize
-    requires { ⌜ (n ≤ 512) × (1536 ≤ length (now rows)) ⌝ }
+    requires { ⌜ (n ≤ mostNodes) × (numbersOfOne ≤ length (now rows)) ⌝ }
     requires { ⌜ now rows ≡ filled (length (now rows)) [] ⌝ }
     ensures { λ r. ⌜ r ≡ length (rowsBy (now (marks .entry)) (now (ranks .entry)) (now (branches .entry)) n) ⌝ }
     ensures { λ r. ⌜ now (rows .exit) ≡ filled (length (now (rows .entry))) (rowsBy (now (marks .entry)) (now (ranks .entry)) (now (branches .entry)) n) ⌝ }
@@ -206,14 +205,14 @@ fn put_rows<'a>(
     let mut i = 0;
     let mut j = 0;
     while i < n {
-        j = put_row(rows, j, marks[i], i, branches[i], ranks[i]);
+        j = put_marked(rows, j, marks[i], i, branches[i], ranks[i]);
         i += 1;
     }
     j
 }
 
 // Whether the sheet, whose reached nodes are marked, is liquid for p: the published rows, or the lowest reached node that has no exit.
-// The rows stand in the buffer, three numbers each.
+// The rows stand in the first places of the buffer.
 pub fn make(
     t: &[usize],
     p: usize,
@@ -222,7 +221,7 @@ pub fn make(
     marks: &[usize; Sheet::NODES],
 ) -> Verdict
     requires { ⌜ Ready (now t) ⌝ }
-    requires { ⌜ (p < people (now t)) × (1536 ≤ length (now rows)) ⌝ }
+    requires { ⌜ (p < people (now t)) × (numbersOfOne ≤ length (now rows)) ⌝ }
     requires { ⌜ Indexed (held (now t)) (now x) ⌝ }
     requires { ⌜ MarksReached (people (now t)) (held (now t)) (now marks) ⌝ }
     ensures { λ r. ⌜ r ≡ answerOf (rule.make (sheetIn (now (t .entry))) p) ⌝ }

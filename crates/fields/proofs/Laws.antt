@@ -79,6 +79,19 @@ one-letter s p h c n m =
     let e : fieldLen (drop p s) ≡ 1 = fieldLen-more s p (omega arith) n m ∙ ap suc (fieldLen-comma s (p + 1) h c) in
     rw (e, drop-cons s p 0, one-byte (getD s p 0) (drop (suc p) s))
 
+-- a byte above a comma is none, and no LF
+fieldLen-on : (s : List ℕ) (p q : ℕ) → q ≡ p + 1 → p < length s → comma < getD s p 0 → fieldLen (drop p s) ≡ suc (fieldLen (drop q s))
+fieldLen-on s p q e h a = rw e (fieldLen-more s p h (λ x. omega (arith, x, a)) (λ x. omega (arith, x, a)))
+
+-- a field of four bytes above a comma, with a comma behind them
+pub four-long : (s : List ℕ) (p : ℕ) → p + 4 < length s → getD s (p + 4) 0 ≡ comma → comma < getD s p 0 → comma < getD s (p + 1) 0 → comma < getD s (p + 2) 0 → comma < getD s (p + 3) 0 → fieldLen (drop p s) ≡ 4
+four-long s p h e a b c d =
+    fieldLen-on s p (p + 1) refl (omega arith) a
+    ∙ ap suc (fieldLen-on s (p + 1) (p + 2) (omega arith) (omega arith) b
+    ∙ ap suc (fieldLen-on s (p + 2) (p + 3) (omega arith) (omega arith) c
+    ∙ ap suc (fieldLen-on s (p + 3) (p + 4) (omega arith) (omega arith) d
+    ∙ ap suc (fieldLen-comma s (p + 4) h e))))
+
 -- what is left to say of a number after its comma
 pub number-by : (s : List ℕ) (at max : ℕ) {n : Num} → at < length s → getD s at 0 ≡ comma → numberOf (textAt s (at + 1)) ≡ n → numberAt s at max ≡ upTo max at (endAt s (at + 1)) n
 unfolding numberAt

@@ -1,5 +1,6 @@
 // A request's fields: a field's end, a number, a word, a line's end. A position is an index of the request.
 ghost use mathlib.Core.Path.{_≡_};
+ghost use mathlib.Core.Bool.{true};
 ghost use Prim.Native.Nat.{_+_, _≤_, _<_};
 ghost use lib.ListN.{length, drop};
 ghost use Rattle.fields.specs.Run.{runAt, endsAt};
@@ -186,14 +187,51 @@ pub fn word(s: &[u8], at: usize) -> Got
     bare_word(s, at + 1)
 }
 
-// A line's first field, as a word.
+// Whether a comma stands behind four bytes that are all above it, and so above an LF: these are the field that starts at `from`.
+fn four(s: &[u8], from: usize) -> bool
+    requires { ⌜ from + 4 < length (now s) ⌝ }
+    ensures { λ r. ⌜ (r ≡ true → fieldLen (drop from (now (s .entry))) ≡ 4) ⌝ }
+{
+    if s[from + 4] != COMMA {
+        return false;
+    }
+    if s[from] <= COMMA {
+        return false;
+    }
+    if s[from + 1] <= COMMA {
+        return false;
+    }
+    if s[from + 2] <= COMMA {
+        return false;
+    }
+    if s[from + 3] <= COMMA {
+        return false;
+    }
+    true
+}
+
+// The end of the field that starts at `from`: that of most events' words is known at once.
+fn word_end(s: &[u8], from: usize) -> usize
+    requires { ⌜ from ≤ length (now s) ⌝ }
+    ensures { λ r. ⌜ r ≡ from + fieldLen (drop from (now (s .entry))) ⌝ }
+{
+    if 4 < s.len() - from {
+        if four(s, from) {
+            return from + 4;
+        }
+    }
+    field_end(s, from)
+}
+
+// A line's first field, as a word. No line has one of one letter, so none is looked for.
 pub fn first(s: &[u8], at: usize) -> Got
     ensures { λ r. ⌜ r ≡ firstAt (now (s .entry)) at ⌝ }
 {
     if s.len() <= at {
         return Got::Bad(2, at);
     }
-    bare_word(s, at)
+    let end = word_end(s, at);
+    Got::Value(packed_of(&s[at..end]), end)
 }
 
 // The LF at `at`.

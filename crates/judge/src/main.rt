@@ -2,17 +2,16 @@
 //
 // Half a request can be another request, as a `check` without its last rows is. So none is judged:
 // where a read fails, nothing is written, and that is no answer.
+use buffer::ALL_NUMBERS;
 use checker::judge_text;
 use libc::STDIN_FILENO;
 use libc::STDOUT_FILENO;
+use replies::BYTES;
 use replies::Reply;
 ghost use Rattle.judge.specs.Input.{Within};
 
-// The longest request has 65,536 bytes: of a longer one, one byte more is read.
-const BYTES: usize = 65537;
-
-// Three numbers for each of 8,192 rows: `makeall` asks for so many.
-const NUMBERS: usize = 24576;
+// Of a request that is too long, one byte more than the longest is read.
+const READ: usize = BYTES + 1;
 
 // The count of bytes up to the end of the input, or of the buffer; or a read failed.
 enum Input {
@@ -41,11 +40,11 @@ fn read_whole(fd: i32, buffer: &mut [u8]) -> Input
 }
 
 fn main() {
-    let mut request = [0u8; BYTES];
+    let mut request = [0u8; READ];
     let Input::Whole(n) = read_whole(STDIN_FILENO, &mut request) else {
         return;
     };
-    let mut numbers = [0usize; NUMBERS];
+    let mut numbers = [0usize; ALL_NUMBERS];
     let mut text = [0u8; Reply::TEXT];
     let m = judge_text(&request[..n], &mut numbers, &mut text);
     io::write_all(STDOUT_FILENO, &text[..m]);

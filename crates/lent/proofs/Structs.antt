@@ -4,12 +4,14 @@ use Prim.Native.Nat.{ℕ, zero, suc, _+_, _-_, _*_, _≤_, _<_}
 use mathlib.Core.List.{List, [], _∷_, _++_, map, append-assoc, append-nil}
 use native.Mathlib.Numerals.{add-one}
 use native.Mathlib.Omega.{arith}
-use lib.ListN.{length, take, drop, getD, set, replicate, length-append, length-drop, length-map, length-replicate, List·getD-eq-default}
+use lib.ListN.{length, take, drop, getD, set, replicate, length-append, length-drop, length-map, length-replicate}
 use lib.Seq.{length-take-le, take-suc, take-length, drop-cons, drop-length, set-at, ext-getD}
 use Rattle.bitml.specs.Lists.{below}
 use Rattle.bitml.specs.Rows as bitml
+use Rattle.bitml.specs.Answers as answers
 use Rattle.bitml.proofs.Lists.{at-replicate, getD-up, length-up}
-use Rattle.buffer.specs.Filled.{flat, filled}
+use Rattle.buffer.specs.Buffer.{rowWide, filled}
+use Rattle.buffer.proofs.Buffer.{past-none, filled-at}
 use Rattle.lent.specs.declared.Row.{Row}
 use Rattle.lent.specs.Structs.{noRow, structOf, structAt, structs}
 
@@ -23,19 +25,16 @@ pub structs-at : (n : ℕ) (xs : List ℕ) (i : ℕ) → i < n → getD (structs
 unfolding structs
 structs-at n xs i h = getD-up (structAt xs) noRow 0 n i i (omega arith) h
 
-pub struct-is : (xs : List ℕ) (i a b c : ℕ) → a ≡ getD xs (3 * i + 0) 0 → b ≡ getD xs (3 * i + 1) 0 → c ≡ getD xs (3 * i + 2) 0 → record { node = a; branch = b; rank = c } ≡ structAt xs i
-unfolding structAt
+pub struct-is : (xs : List ℕ) (i a b c : ℕ) → a ≡ getD xs (rowWide * i + 0) 0 → b ≡ getD xs (rowWide * i + 1) 0 → c ≡ getD xs (rowWide * i + 2) 0 → record { node = a; branch = b; rank = c } ≡ structAt xs i
+unfolding structAt structOf
 struct-is xs i a b c e f g =
-    let z : 3 * i + 0 ≡ 3 * i = omega arith in
+    let z : rowWide * i + 0 ≡ rowWide * i = omega arith in
     rw (e, f, g, z)
 
 -- past the numbers
-pub struct-none : (xs : List ℕ) (i : ℕ) → length xs ≤ 3 * i → noRow ≡ structAt xs i
-struct-none xs i h =
-    struct-is xs i 0 0 0
-    (sym (List·getD-eq-default xs 0 {n = 3 * i + 0} (omega arith)))
-    (sym (List·getD-eq-default xs 0 {n = 3 * i + 1} (omega arith)))
-    (sym (List·getD-eq-default xs 0 {n = 3 * i + 2} (omega arith)))
+pub struct-none : (xs : List ℕ) (i : ℕ) → length xs ≤ rowWide * i → noRow ≡ structAt xs i
+unfolding structAt structOf
+struct-none xs i h = sym (ap structOf (past-none xs i h))
 
 -- ---- the lent rows ys once i of them are written
 
@@ -67,31 +66,19 @@ module _ (xs : List ℕ) (ys : List Row) (i : ℕ) where
 
 -- ---- rows, and zero past them
 
-shift : (a b c : ℕ) (xs : List ℕ) (i : ℕ) → structAt (a ∷ b ∷ c ∷ xs) (suc i) ≡ structAt xs i
-unfolding structAt
-shift a b c xs i =
-    let e₀ : 3 * suc i ≡ suc (suc (suc (3 * i))) = omega arith in
-    let e₁ : 3 * suc i + 1 ≡ suc (suc (suc (3 * i + 1))) = omega arith in
-    let e₂ : 3 * suc i + 2 ≡ suc (suc (suc (3 * i + 2))) = omega arith in
-    rw (e₁, e₂, e₀)
-
-zeros-at : (k i : ℕ) → structAt (replicate k 0) i ≡ noRow
-unfolding structAt
-zeros-at k i = rw (at-replicate {A = ℕ} k (3 * i) 0, at-replicate {A = ℕ} k (3 * i + 1) 0, at-replicate {A = ℕ} k (3 * i + 2) 0)
-
-flat-at : (R : List bitml.Row) (k m i : ℕ) → structAt (flat R ++ replicate k 0) i ≡ getD (map structOf R ++ replicate m noRow) i noRow
-unfolding flat structOf structAt
-flat-at [] k m i = zeros-at k i ∙ sym (at-replicate m i noRow)
-flat-at (r ∷ R) k m zero = refl
-flat-at (r ∷ R) k m (suc i) = shift (r .node) (r .branch) (r .rank) (flat R ++ replicate k 0) i ∙ flat-at R k m i
+row-at : (R : List bitml.Row) (m i : ℕ) → structOf (getD R i answers.noRow) ≡ getD (map structOf R ++ replicate m noRow) i noRow
+unfolding structOf
+row-at [] m i = sym (at-replicate m i noRow)
+row-at (r ∷ R) m zero = refl
+row-at (r ∷ R) m (suc i) = row-at R m i
 
 pub structs-filled : (n L : ℕ) (R : List bitml.Row) → length R ≤ n → structs n (filled L R) ≡ map structOf R ++ replicate (n - length R) noRow
-unfolding filled
+unfolding structAt
 structs-filled n L R h =
     let l = structs-length n (filled L R) in
     ext-getD noRow (structs n (filled L R)) (map structOf R ++ replicate (n - length R) noRow)
     (omega (arith, l, length-append (map structOf R) (replicate (n - length R) noRow), length-map R structOf, length-replicate (n - length R) noRow))
-    (λ i g. structs-at n (filled L R) i (omega (arith, l)) ∙ flat-at R (L - 3 * length R) (n - length R) i)
+    (λ i g. structs-at n (filled L R) i (omega (arith, l)) ∙ ap structOf (filled-at L R i) ∙ row-at R (n - length R) i)
 
 -- "wholly zero"
 pub structs-cleared : (n L : ℕ) → structs n (filled L []) ≡ replicate n noRow

@@ -1,11 +1,11 @@
 -- The rows that a caller lends, as structs. Assumes nothing.
-use Prim.Native.Nat.{ℕ, _+_, _*_, _/_}
+use Prim.Native.Nat.{ℕ, _+_, _/_}
 use mathlib.Core.Bool.{cond}
 use mathlib.Core.List.{List, map}
-use lib.ListN.{getD}
 use lib.Dec.{ltb}
 use Rattle.bitml.specs.Lists.{below}
 use Rattle.bitml.specs.Rows as bitml
+use Rattle.buffer.specs.Buffer.{rowWide, rowIn}
 use Rattle.lent.specs.declared.Row.{Row}
 
 -- "zero past them"
@@ -16,13 +16,13 @@ noRow = record { node = 0; branch = 0; rank = 0 }
 unfoldable pub structOf : bitml.Row → Row
 structOf r = record { node = r .node; branch = r .branch; rank = r .rank }
 
--- Row i of numbers that hold node, branch, rank for each row; 0 where they end
+-- The row in place i of a buffer of numbers; 0 where they end
 unfoldable pub structAt : List ℕ → ℕ → Row
-structAt xs i = record { node = getD xs (3 * i) 0; branch = getD xs (3 * i + 1) 0; rank = getD xs (3 * i + 2) 0 }
+structAt xs i = structOf (rowIn xs i)
 
 -- How many of n places k numbers reach into
 unfoldable pub reachedOf : ℕ → ℕ → ℕ
-reachedOf n k = cond (ltb (k / 3) n) (k / 3 + 1) n
+reachedOf n k = cond (ltb (k / rowWide) n) (k / rowWide + 1) n
 
 -- "The row buffer holds the rows .. and is zero past them": all of n places
 unfoldable pub structs : ℕ → List ℕ → List Row

@@ -1,7 +1,12 @@
-// The rows that a caller lends, as structs: they are filled from numbers, three for each row.
+// The rows that a caller lends, as structs: they are filled from a row buffer of numbers.
+use buffer::ROW_WIDE;
+use buffer::row_branch;
+use buffer::row_node;
+use buffer::row_rank;
 ghost use mathlib.Core.Path.{_≡_};
 ghost use Prim.Native.Nat.{_+_, _*_, _≤_, _<_};
 ghost use lib.ListN.{length, getD};
+ghost use Rattle.buffer.specs.Buffer.{rowWide};
 ghost use Rattle.lent.specs.Structs.{structAt, reachedOf, structs};
 
 #[repr(C)]
@@ -13,13 +18,13 @@ pub struct Row {
 
 // Number k of row i, and 0 where the numbers end. It compares before it multiplies, so nothing wraps.
 fn number_of(numbers: &[usize], i: usize, k: usize) -> usize
-    ensures { λ r. ⌜ r ≡ getD (now (numbers .entry)) (3 * i + k) 0 ⌝ }
+    ensures { λ r. ⌜ r ≡ getD (now (numbers .entry)) (rowWide * i + k) 0 ⌝ }
 {
     let n = numbers.len();
-    if n / 3 < i {
+    if n / ROW_WIDE < i {
         return 0;
     }
-    let first = 3 * i;
+    let first = ROW_WIDE * i;
     if n - first <= k {
         return 0;
     }
@@ -30,13 +35,11 @@ fn number_of(numbers: &[usize], i: usize, k: usize) -> usize
 fn row_of(numbers: &[usize], i: usize) -> Row
     ensures { λ r. ⌜ r ≡ structAt (now (numbers .entry)) i ⌝ }
 {
-    if i < numbers.len() / 3 {
-        let first = 3 * i;
-        return Row {
-            node: numbers[first],
-            branch: numbers[first + 1],
-            rank: numbers[first + 2],
-        };
+    if i < numbers.len() / ROW_WIDE {
+        let node = row_node(numbers, i);
+        let branch = row_branch(numbers, i);
+        let rank = row_rank(numbers, i);
+        return Row { node, branch, rank };
     }
     let node = number_of(numbers, i, 0);
     let branch = number_of(numbers, i, 1);
@@ -47,9 +50,9 @@ fn row_of(numbers: &[usize], i: usize) -> Row
 // How many of n places the numbers reach into: all rows, and one that they end within.
 fn reached(numbers: &[usize], n: usize) -> usize
     ensures { λ r. ⌜ r ≡ reachedOf n (length (now (numbers .entry))) ⌝ }
-    ensures { λ r. ⌜ (r ≤ n) × (r < n → length (now (numbers .entry)) ≤ 3 * r) ⌝ }
+    ensures { λ r. ⌜ (r ≤ n) × (r < n → length (now (numbers .entry)) ≤ rowWide * r) ⌝ }
 {
-    let held = numbers.len() / 3;
+    let held = numbers.len() / ROW_WIDE;
     if held < n {
         return held + 1;
     }

@@ -11,7 +11,8 @@ use Rattle.fields.specs.Field.{numberAt, lineEndAt}
 use Rattle.tables.specs.declared.St.{St}
 use Rattle.tables.specs.Entries.{firstOf, nodeIn, defIn}
 use Rattle.tables.specs.State.{State, stateOf, nodesOf, branchesOf, defsOf, listedOf, cellsOf, withListed, withDef, defEntry, moreDefs}
-use Rattle.tables.proofs.Laws.{firstOf-length, listed-length}
+use Rattle.tables.proofs.Runs.{firstOf-length}
+use Rattle.tables.proofs.Laws.{listed-length}
 use Rattle.steps.specs.declared.Read.{Read}
 use Rattle.steps.specs.declared.Read.the-variants.{Value, Bad}
 use Rattle.steps.specs.Steps.{Outcome, next, bad, moved, Met, goOn, either, andThen, times}

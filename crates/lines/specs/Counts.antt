@@ -4,12 +4,13 @@ use mathlib.Core.Path.{_≡_}
 use mathlib.Core.List.{List}
 use lib.ListN.{length}
 use Rattle.tables.specs.declared.St.{St}
+use Rattle.tables.specs.Entries.{mostNodes, mostBranches}
 
 -- outside contracts: within the limits; a branch lists up to 8 numbers, a definition up to 24, and the line at hand up to n so
 -- far; a cell took two bytes
 pub record Between (s : List ℕ) (n : ℕ) (st : St) : Type 0 where
-  pub few-nodes : st .nodes ≤ 512
-  pub few-branches : st .branches ≤ 1024
+  pub few-nodes : st .nodes ≤ mostNodes
+  pub few-branches : st .branches ≤ mostBranches
   pub few-listed : st .listed ≤ 8 * st .branches + 24 * st .defs + n
   pub few-cells : 2 * st .cells ≤ st .at
   pub inside : st .at ≤ length s

@@ -6,7 +6,7 @@ use lib.Dec.{ltb, leb}
 use Rattle.fields.specs.declared.Got.{Got}
 use Rattle.fields.specs.declared.Got.the-variants as got
 use Rattle.places.specs.Places.{passingOf}
-use Rattle.tables.specs.Entries.{Entries, held, people}
+use Rattle.tables.specs.Entries.{Entries, held, people, mostNodes, mostDefs}
 use Rattle.tables.specs.State.{entries}
 use Rattle.steps.specs.Steps.{Outcome, next, bad, either, times}
 use Rattle.contracts.specs.declared.Limits.{Limits}
@@ -61,8 +61,8 @@ pub record Sized (s : List ℕ) (at : ℕ) (t : List ℕ) : Type 0 where
   pub some-people : 1 ≤ people t
   pub few-people : people t ≤ 16
   pub some-defs : 1 ≤ getD t 1 0
-  pub few-defs : getD t 1 0 ≤ 32
-  pub few-nodes : getD t 2 0 ≤ 512
+  pub few-defs : getD t 1 0 ≤ mostDefs
+  pub few-nodes : getD t 2 0 ≤ mostNodes
 
 unfoldable pub whenAccepted : List ℕ → Got → List ℕ → Type 0
 whenAccepted s (got.Value v at) t = Sized s at t

@@ -21,6 +21,7 @@ ghost use mathlib.Core.List.{List};
 ghost use Prim.Native.Nat.{ℕ, _+_, _≤_, _<_};
 ghost use lib.ListN.{length};
 ghost use Rattle.tables.specs.State.{stateOf};
+ghost use Rattle.tables.specs.Entries.{Spacious, mostListed, mostDefs};
 ghost use Rattle.steps.specs.Steps.{Outcome, Met, times};
 ghost use Rattle.conditions.specs.Condition.{HasRoom};
 ghost use Rattle.lines.specs.LineOne.{countsAt, lineOneAt};
@@ -29,7 +30,6 @@ ghost use Rattle.lines.specs.Counts.{Between, Defined};
 ghost use Rattle.lines.specs.Definition.{depositsAt, ownerAt, rootAt, ownedAt, defineAt, blank};
 ghost use Rattle.lines.specs.Sheet.{limited, sheetFrom, readSheet, answered, whenAccepted};
 ghost use Rattle.lines.specs.declared.LineOne.the-variants.{Counts};
-ghost use Rattle.tables.specs.Entries.{Spacious};
 
 // The words, as numbers in base 256.
 const BITML: usize = (((b'b' as usize * 256 + b'i' as usize) * 256 + b't' as usize) * 256
@@ -88,7 +88,7 @@ pub fn line_one(s: &[u8]) -> LineOne
 fn deposits(s: &[u8], st: St, n: usize, t: &mut [usize]) -> Read
     requires { ⌜ Spacious (now s) (now t) ⌝ }
     requires { ⌜ HasRoom (now s) st ⌝ }
-    requires { ⌜ st .listed + n ≤ 8960 ⌝ }
+    requires { ⌜ st .listed + n ≤ mostListed ⌝ }
     ensures { λ r. ⌜ Met (Added (now (s .entry)) 0 n st) (depositsAt (now (s .entry)) 0 n (stateOf st (now (t .entry)))) r (now (t .exit)) ⌝ }
 {
     let mut cur = st;
@@ -113,7 +113,7 @@ fn deposits(s: &[u8], st: St, n: usize, t: &mut [usize]) -> Read
 fn owner(s: &[u8], st: St, people: usize, t: &mut [usize]) -> Read
     requires { ⌜ Spacious (now s) (now t) ⌝ }
     requires { ⌜ HasRoom (now s) st ⌝ }
-    requires { ⌜ st .listed < 8960 ⌝ }
+    requires { ⌜ st .listed < mostListed ⌝ }
     ensures { λ r. ⌜ Met (Added (now (s .entry)) 0 1 st) (ownerAt (now (s .entry)) people (stateOf st (now (t .entry)))) r (now (t .exit)) ⌝ }
 {
     let g = num(s, st, Sheet::NUMBER);
@@ -131,7 +131,7 @@ fn owner(s: &[u8], st: St, people: usize, t: &mut [usize]) -> Read
 fn owners(s: &[u8], st: St, n: usize, people: usize, t: &mut [usize]) -> Read
     requires { ⌜ Spacious (now s) (now t) ⌝ }
     requires { ⌜ HasRoom (now s) st ⌝ }
-    requires { ⌜ st .listed + n ≤ 8960 ⌝ }
+    requires { ⌜ st .listed + n ≤ mostListed ⌝ }
     ensures { λ r. ⌜ Met (Added (now (s .entry)) 0 n st) (times n (ownerAt (now (s .entry)) people) (stateOf st (now (t .entry)))) r (now (t .exit)) ⌝ }
 {
     let mut cur = st;
@@ -151,7 +151,7 @@ fn owners(s: &[u8], st: St, n: usize, people: usize, t: &mut [usize]) -> Read
 fn root(s: &[u8], st: St, first: usize, n: usize, z: Limits, t: &mut [usize]) -> Read
     requires { ⌜ Spacious (now s) (now t) ⌝ }
     requires { ⌜ Between (now s) 24 st ⌝ }
-    requires { ⌜ st .defs < 32 ⌝ }
+    requires { ⌜ st .defs < mostDefs ⌝ }
     ensures { λ r. ⌜ Met (Defined (now (s .entry)) (st .defs + 1)) (rootAt (now (s .entry)) z first n (stateOf st (now (t .entry)))) r (now (t .exit)) ⌝ }
 {
     let lim = Limits {
@@ -173,7 +173,7 @@ fn root(s: &[u8], st: St, first: usize, n: usize, z: Limits, t: &mut [usize]) ->
 fn owned(s: &[u8], st: St, first: usize, z: Limits, t: &mut [usize]) -> Read
     requires { ⌜ Spacious (now s) (now t) ⌝ }
     requires { ⌜ Between (now s) 16 st ⌝ }
-    requires { ⌜ st .defs < 32 ⌝ }
+    requires { ⌜ st .defs < mostDefs ⌝ }
     ensures { λ r. ⌜ Met (Defined (now (s .entry)) (st .defs + 1)) (ownedAt (now (s .entry)) z first (stateOf st (now (t .entry)))) r (now (t .exit)) ⌝ }
 {
     let g = num(s, st, Sheet::SECRETS);
@@ -191,7 +191,7 @@ fn owned(s: &[u8], st: St, first: usize, z: Limits, t: &mut [usize]) -> Read
 fn define(s: &[u8], st: St, z: Limits, t: &mut [usize]) -> Read
     requires { ⌜ Spacious (now s) (now t) ⌝ }
     requires { ⌜ Between (now s) 0 st ⌝ }
-    requires { ⌜ (st .defs < 32) × (z .people ≤ 16) ⌝ }
+    requires { ⌜ (st .defs < mostDefs) × (z .people ≤ 16) ⌝ }
     ensures { λ r. ⌜ Met (Defined (now (s .entry)) (st .defs + 1)) (defineAt (now (s .entry)) z (stateOf st (now (t .entry)))) r (now (t .exit)) ⌝ }
 {
     let g = first_word(s, st);
@@ -213,7 +213,7 @@ fn define(s: &[u8], st: St, z: Limits, t: &mut [usize]) -> Read
 fn definitions(s: &[u8], at: usize, n: usize, z: Limits, t: &mut [usize]) -> Read
     requires { ⌜ Spacious (now s) (now t) ⌝ }
     requires { ⌜ (at ≤ length (now s)) × (length (now s) ≤ 65536) ⌝ }
-    requires { ⌜ (n ≤ 32) × (z .people ≤ 16) ⌝ }
+    requires { ⌜ (n ≤ mostDefs) × (z .people ≤ 16) ⌝ }
     ensures { λ r. ⌜ Met (Defined (now (s .entry)) n) (times n (defineAt (now (s .entry)) z) (blank at)) r (now (t .exit)) ⌝ }
 {
     let mut cur = St {
@@ -271,7 +271,7 @@ fn limit(s: &[u8], g: Read) -> Read
 fn after_line_one(s: &[u8], k: usize, n: usize, at: usize, t: &mut [usize]) -> Got
     requires { ⌜ Spacious (now s) (now t) ⌝ }
     requires { ⌜ (at ≤ length (now s)) × (length (now s) ≤ 65536) ⌝ }
-    requires { ⌜ (1 ≤ k) × (k ≤ 16) × (1 ≤ n) × (n ≤ 32) ⌝ }
+    requires { ⌜ (1 ≤ k) × (k ≤ 16) × (1 ≤ n) × (n ≤ mostDefs) ⌝ }
     ensures { λ r. ⌜ (answered r (now (t .exit)) ≡ sheetFrom (now (s .entry)) (Counts k n at)) × whenAccepted (now (s .entry)) r (now (t .exit)) ⌝ }
 {
     let z = Limits {

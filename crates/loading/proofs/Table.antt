@@ -5,14 +5,14 @@ use native.Mathlib.Omega.{arith}
 use mathlib.Core.List.{List, [], _++_, append-assoc, append-nil}
 use lib.ListN.{length, getD, take, drop, replicate, length-append, length-drop, length-replicate, replicate-append-replicate}
 use lib.Seq.{length-take-le, getD-take, take-take, take-add, take-at, drop-at, take-append-le, take-length, drop-drop}
-use Rattle.tables.specs.Entries.{Entries, firstOf, nodeIn, branchIn, defIn, listedIn, cellIn, held, people, tableLong}
-use Rattle.tables.proofs.Laws.{firstOf-length}
+use Rattle.tables.specs.Entries.{Entries, nodeCells, branchCells, defCells, flat, firstOf, nodeIn, branchIn, defIn, listedIn, cellIn, held, people, tableLong, nodeWide, branchWide, defWide, nodesFrom, branchesFrom, defsFrom, listedFrom, cellsFrom, mostNodes, mostBranches, mostListed, mostCells, mostDefs}
+use Rattle.tables.proofs.Runs.{firstOf-length}
+use Rattle.tables.proofs.Sections.{Section, flat-long, part-is, holds, nodes-section, branches-section, defs-section, numbers-part, numbers-held}
+use Rattle.buffer.specs.Buffer.{filled}
+use Rattle.buffer.proofs.Buffer.{filled-none}
 use Rattle.reading.specs.Promises.{Sizes}
 use Rattle.reading.proofs.Sizes.{sizes-within}
-use Rattle.buffer.specs.Filled.{filled}
-use Rattle.buffer.proofs.Filled.{filled-none}
-use Rattle.loading.proofs.Sections.{Section, flat-long, part-is, holds, nodes-section, branches-section, defs-section, numbers-part, numbers-held}
-use Rattle.loading.specs.Table.{padded, flat, nodeCells, branchCells, defCells, headerCells, sectionCells, tableOf}
+use Rattle.loading.specs.Table.{padded, headerCells, sectionCells, tableOf}
 
 -- ---- numbers, and zeros past them
 
@@ -24,10 +24,10 @@ padded-long n xs h = omega (arith, length-append xs (replicate (n - length xs) 0
 
 abbrev behindHeader : ℕ → Entries → List ℕ
 behindHeader n E =
-    padded 2048 (flat nodeCells (E .nodes)) ++ (padded 8192 (flat branchCells (E .branches)) ++ (padded 96 (flat defCells (E .defs)) ++ (padded 8960 (E .listed) ++ (padded (n - 19304) (E .cells) ++ []))))
+    padded (nodeWide * mostNodes) (flat nodeCells (E .nodes)) ++ (padded (branchWide * mostBranches) (flat branchCells (E .branches)) ++ (padded (defWide * mostDefs) (flat defCells (E .defs)) ++ (padded mostListed (E .listed) ++ (padded (n - cellsFrom) (E .cells) ++ []))))
 
 abbrev laid : ℕ → ℕ → Entries → List ℕ
-laid n K E = padded 8 (headerCells K E) ++ behindHeader n E
+laid n K E = padded nodesFrom (headerCells K E) ++ behindHeader n E
 
 padded-on : (m k : ℕ) (xs : List ℕ) → length xs ≤ m → padded m xs ++ replicate k 0 ≡ padded (m + k) xs ++ []
 unfolding padded
@@ -54,26 +54,26 @@ unfolding headerCells
 header-long K E = refl
 
 module _ (K : ℕ) (E : Entries) (z : Sizes K E) where
-  nodes-fit : length (flat nodeCells (E .nodes)) ≤ 2048
+  nodes-fit : length (flat nodeCells (E .nodes)) ≤ nodeWide * mostNodes
   nodes-fit = omega (arith, flat-long nodes-section (E .nodes), z .nodes)
 
-  branches-fit : length (flat branchCells (E .branches)) ≤ 8192
+  branches-fit : length (flat branchCells (E .branches)) ≤ branchWide * mostBranches
   branches-fit = omega (arith, flat-long branches-section (E .branches), z .branches)
 
-  defs-fit : length (flat defCells (E .defs)) ≤ 96
+  defs-fit : length (flat defCells (E .defs)) ≤ defWide * mostDefs
   defs-fit = omega (arith, flat-long defs-section (E .defs), z .defs .1)
 
-  sections-long : length (sectionCells K E) ≡ 52072
+  sections-long : length (sectionCells K E) ≡ tableLong
   unfolding sectionCells
   sections-long =
-      six-long (padded 8 (headerCells K E)) (padded 2048 (flat nodeCells (E .nodes))) (padded 8192 (flat branchCells (E .branches))) (padded 96 (flat defCells (E .defs))) (padded 8960 (E .listed)) (padded 32768 (E .cells))
+      six-long (padded nodesFrom (headerCells K E)) (padded (nodeWide * mostNodes) (flat nodeCells (E .nodes))) (padded (branchWide * mostBranches) (flat branchCells (E .branches))) (padded (defWide * mostDefs) (flat defCells (E .defs))) (padded mostListed (E .listed)) (padded mostCells (E .cells))
       ∙ rw (
-        padded-long 8 (headerCells K E) (omega (arith, header-long K E)),
-        padded-long 2048 (flat nodeCells (E .nodes)) nodes-fit,
-        padded-long 8192 (flat branchCells (E .branches)) branches-fit,
-        padded-long 96 (flat defCells (E .defs)) defs-fit,
-        padded-long 8960 (E .listed) (z .listed),
-        padded-long 32768 (E .cells) (z .cells),
+        padded-long nodesFrom (headerCells K E) (omega (arith, header-long K E)),
+        padded-long (nodeWide * mostNodes) (flat nodeCells (E .nodes)) nodes-fit,
+        padded-long (branchWide * mostBranches) (flat branchCells (E .branches)) branches-fit,
+        padded-long (defWide * mostDefs) (flat defCells (E .defs)) defs-fit,
+        padded-long mostListed (E .listed) (z .listed),
+        padded-long mostCells (E .cells) (z .cells),
       )
 
   pub table-long : (n : ℕ) → tableLong ≤ n → length (tableOf n K E) ≡ n
@@ -83,16 +83,16 @@ module _ (K : ℕ) (E : Entries) (z : Sizes K E) where
   table-is : (n : ℕ) → tableLong ≤ n → tableOf n K E ≡ laid n K E
   unfolding tableOf sectionCells padded
   table-is n h =
-      let a = padded 8 (headerCells K E) in
-      let b = padded 2048 (flat nodeCells (E .nodes)) in
-      let c = padded 8192 (flat branchCells (E .branches)) in
-      let d = padded 96 (flat defCells (E .defs)) in
-      let e = padded 8960 (E .listed) in
-      let f = padded 32768 (E .cells) in
-      let k : 32768 + (n - 52072) ≡ n - 19304 = omega arith in
+      let a = padded nodesFrom (headerCells K E) in
+      let b = padded (nodeWide * mostNodes) (flat nodeCells (E .nodes)) in
+      let c = padded (branchWide * mostBranches) (flat branchCells (E .branches)) in
+      let d = padded (defWide * mostDefs) (flat defCells (E .defs)) in
+      let e = padded mostListed (E .listed) in
+      let f = padded mostCells (E .cells) in
+      let k : mostCells + (n - tableLong) ≡ n - cellsFrom = omega arith in
       ap (λ i. sectionCells K E ++ replicate (n - i) 0) sections-long
-      ∙ append-six a b c d e f (replicate (n - 52072) 0)
-      ∙ ap (λ zs. a ++ (b ++ (c ++ (d ++ (e ++ zs))))) (padded-on 32768 (n - 52072) (E .cells) (z .cells) ∙ ap (λ i. padded i (E .cells) ++ []) k)
+      ∙ append-six a b c d e f (replicate (n - tableLong) 0)
+      ∙ ap (λ zs. a ++ (b ++ (c ++ (d ++ (e ++ zs))))) (padded-on mostCells (n - tableLong) (E .cells) (z .cells) ∙ ap (λ i. padded i (E .cells) ++ []) k)
 
 -- ---- zeros behind what is held of a section
 
@@ -157,20 +157,20 @@ header-is t =
 
 -- a table u that was read, with zeros behind each of its sections from the last to the first, is the table of what it holds
 module _ (u : List ℕ) (long : tableLong ≤ length u) (z : Sizes (people u) (held u)) where
-  pub cleared-is : (v₁ v₂ v₃ v₄ v₅ v₆ : List ℕ) → v₁ ≡ zeros (19304 + getD u 5 0) (length u) u → v₂ ≡ zeros (10344 + getD u 4 0) 19304 v₁
-      → v₃ ≡ zeros (10248 + 3 * getD u 1 0) 10344 v₂ → v₄ ≡ zeros (2056 + 8 * getD u 3 0) 10248 v₃ → v₅ ≡ zeros (8 + 4 * getD u 2 0) 2056 v₄
-      → v₆ ≡ zeros 6 8 v₅ → v₆ ≡ tableOf (length u) (people u) (held u)
+  pub cleared-is : (v₁ v₂ v₃ v₄ v₅ v₆ : List ℕ) → v₁ ≡ zeros (cellsFrom + getD u 5 0) (length u) u → v₂ ≡ zeros (listedFrom + getD u 4 0) cellsFrom v₁
+      → v₃ ≡ zeros (defsFrom + defWide * getD u 1 0) listedFrom v₂ → v₄ ≡ zeros (branchesFrom + branchWide * getD u 3 0) defsFrom v₃ → v₅ ≡ zeros (nodesFrom + nodeWide * getD u 2 0) branchesFrom v₄
+      → v₆ ≡ zeros 6 nodesFrom v₅ → v₆ ≡ tableOf (length u) (people u) (held u)
   unfolding held
   cleared-is v₁ v₂ v₃ v₄ v₅ v₆ w₁ w₂ w₃ w₄ w₅ w₆ =
       let c = sizes-within u z in
       let e₀ = sym (append-nil (take (length u) u) ∙ take-length u) in
-      let e₁ = w₁ ∙ numbers-zeros u u [] 19304 (getD u 5 0) (length u) e₀ (omega (arith, c .cells)) (omega arith) in
-      let e₂ = w₂ ∙ numbers-zeros u v₁ _ 10344 (getD u 4 0) 19304 e₁ (omega (arith, c .listed)) (omega arith) in
-      let e₃ = w₃ ∙ section-zeros defs-section u v₂ _ (getD u 1 0) 10344 e₂ (omega (arith, c .defs)) (omega arith) in
-      let e₄ = w₄ ∙ section-zeros branches-section u v₃ _ (getD u 3 0) 10248 e₃ (omega (arith, c .branches)) (omega arith) in
-      let e₅ = w₅ ∙ section-zeros nodes-section u v₄ _ (getD u 2 0) 2056 e₄ (omega (arith, c .nodes)) (omega arith) in
-      let e₆ = w₆ ∙ numbers-zeros u v₅ _ 0 6 8 e₅ (omega arith) (omega arith) in
-      e₆ ∙ ap (λ xs. padded 8 xs ++ behindHeader (length u) (held u)) (header-is u) ∙ sym (table-is (people u) (held u) z (length u) long)
+      let e₁ = w₁ ∙ numbers-zeros u u [] cellsFrom (getD u 5 0) (length u) e₀ (omega (arith, c .cells)) (omega arith) in
+      let e₂ = w₂ ∙ numbers-zeros u v₁ _ listedFrom (getD u 4 0) cellsFrom e₁ (omega (arith, c .listed)) (omega arith) in
+      let e₃ = w₃ ∙ section-zeros defs-section u v₂ _ (getD u 1 0) listedFrom e₂ (omega (arith, c .defs)) (omega arith) in
+      let e₄ = w₄ ∙ section-zeros branches-section u v₃ _ (getD u 3 0) defsFrom e₃ (omega (arith, c .branches)) (omega arith) in
+      let e₅ = w₅ ∙ section-zeros nodes-section u v₄ _ (getD u 2 0) branchesFrom e₄ (omega (arith, c .nodes)) (omega arith) in
+      let e₆ = w₆ ∙ numbers-zeros u v₅ _ 0 6 nodesFrom e₅ (omega arith) (omega arith) in
+      e₆ ∙ ap (λ xs. padded nodesFrom xs ++ behindHeader (length u) (held u)) (header-is u) ∙ sym (table-is (people u) (held u) z (length u) long)
 
 -- ---- what stands where in a table
 
@@ -192,18 +192,18 @@ module _ (K : ℕ) (E : Entries) (z : Sizes K E) (n : ℕ) (h : tableLong ≤ n)
   unfolding held headerCells
   holds-all t e =
       let long : length t ≡ n = ap (λ xs. length xs) e ∙ table-long K E z n h in
-      let s₁ = opened t _ (headerCells K E) 0 8 (e ∙ table-is K E z n h) (omega arith) in
-      let s₂ = opened t _ (flat nodeCells (E .nodes)) 8 2048 (s₁ .1) (nodes-fit K E z) in
-      let s₃ = opened t _ (flat branchCells (E .branches)) 2056 8192 (s₂ .1) (branches-fit K E z) in
-      let s₄ = opened t _ (flat defCells (E .defs)) 10248 96 (s₃ .1) (defs-fit K E z) in
-      let s₅ = opened t _ (E .listed) 10344 8960 (s₄ .1) (z .listed) in
-      let s₆ = opened t _ (E .cells) 19304 (n - 19304) (s₅ .1) (omega (arith, z .cells)) in
+      let s₁ = opened t _ (headerCells K E) 0 nodesFrom (e ∙ table-is K E z n h) (omega arith) in
+      let s₂ = opened t _ (flat nodeCells (E .nodes)) nodesFrom (nodeWide * mostNodes) (s₁ .1) (nodes-fit K E z) in
+      let s₃ = opened t _ (flat branchCells (E .branches)) branchesFrom (branchWide * mostBranches) (s₂ .1) (branches-fit K E z) in
+      let s₄ = opened t _ (flat defCells (E .defs)) defsFrom (defWide * mostDefs) (s₃ .1) (defs-fit K E z) in
+      let s₅ = opened t _ (E .listed) listedFrom mostListed (s₄ .1) (z .listed) in
+      let s₆ = opened t _ (E .cells) cellsFrom (n - cellsFrom) (s₅ .1) (omega (arith, z .cells)) in
       let told : (i : ℕ) → i < 6 → getD t i 0 ≡ getD (headerCells K E) i 0 = first-told t (headerCells K E) (s₁ .0) in
       let nodes = ap (λ k. firstOf (nodeIn t) k) (told 2 (omega arith)) ∙ holds nodes-section t (E .nodes) (omega (arith, z .nodes)) (s₂ .0) in
       let branches = ap (λ k. firstOf (branchIn t) k) (told 3 (omega arith)) ∙ holds branches-section t (E .branches) (omega (arith, z .branches)) (s₃ .0) in
       let defs = ap (λ k. firstOf (defIn t) k) (told 1 (omega arith)) ∙ holds defs-section t (E .defs) (omega (arith, z .defs .1)) (s₄ .0) in
-      let listed = ap (λ k. firstOf (listedIn t) k) (told 4 (omega arith)) ∙ numbers-held t 10344 (E .listed) (omega (arith, z .listed)) (s₅ .0) in
-      let cells = ap (λ k. firstOf (cellIn t) k) (told 5 (omega arith)) ∙ numbers-held t 19304 (E .cells) (omega (arith, z .cells)) (s₆ .0) in
+      let listed = ap (λ k. firstOf (listedIn t) k) (told 4 (omega arith)) ∙ numbers-held t listedFrom (E .listed) (omega (arith, z .listed)) (s₅ .0) in
+      let cells = ap (λ k. firstOf (cellIn t) k) (told 5 (omega arith)) ∙ numbers-held t cellsFrom (E .cells) (omega (arith, z .cells)) (s₆ .0) in
       (told 0 (omega arith), rw (nodes, branches, defs, listed, cells))
 
   pub people-back : people (tableOf n K E) ≡ K

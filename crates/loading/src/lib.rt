@@ -3,7 +3,10 @@ use buffer::clear;
 use fields::Got;
 use lines::sheet;
 use places::place_of;
+use replies::BYTES;
 use replies::Reply;
+use replies::TOO_LONG;
+use replies::TOO_SHORT;
 use replies::answered;
 use replies::declined;
 use tables::Sheet;
@@ -15,13 +18,6 @@ ghost use Rattle.tables.specs.Entries.{held, people, tableLong};
 ghost use Rattle.reading.specs.Promises.{Sizes};
 ghost use Rattle.loading.specs.Table.{tableOf};
 ghost use Rattle.loading.specs.Loading.{refusedAt, loading, replyTo, cellsOf};
-
-// The longest text.
-const BYTES: usize = 65536;
-
-const TOO_LONG: usize = 1;
-
-const TOO_SHORT: usize = 7;
 
 const TOO_MANY: usize = 9;
 
@@ -47,9 +43,17 @@ fn clear_rest(t: &mut [usize])
     let n = t.len();
     clear_part(t, Sheet::CELLS_AT + cells, n);
     clear_part(t, Sheet::LISTED_AT + listed, Sheet::CELLS_AT);
-    clear_part(t, Sheet::DEFS_AT + 3 * defs, Sheet::LISTED_AT);
-    clear_part(t, Sheet::BRANCHES_AT + 8 * branches, Sheet::DEFS_AT);
-    clear_part(t, Sheet::NODES_AT + 4 * nodes, Sheet::BRANCHES_AT);
+    clear_part(t, Sheet::DEFS_AT + Sheet::DEF_WIDE * defs, Sheet::LISTED_AT);
+    clear_part(
+        t,
+        Sheet::BRANCHES_AT + Sheet::BRANCH_WIDE * branches,
+        Sheet::DEFS_AT,
+    );
+    clear_part(
+        t,
+        Sheet::NODES_AT + Sheet::NODE_WIDE * nodes,
+        Sheet::BRANCHES_AT,
+    );
     clear_part(t, Sheet::CELLS_CELL + 1, Sheet::NODES_AT);
 }
 

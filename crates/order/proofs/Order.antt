@@ -10,7 +10,7 @@ use borrow.Author.Tests.{eqb-true, eqb-false, lt-ltb, le-ltb}
 use Rattle.bitml.specs.Rows as bitml
 use Rattle.bitml.specs.Rows.{Row, orElse, repeated, falling}
 use Rattle.bitml.proofs.Counting.{at-store}
-use Rattle.requests.specs.Rows.{rowIn, rowsOf}
+use Rattle.buffer.specs.Buffer.{rowIn, rowsOf}
 use Rattle.order.specs.Nodes.{RowsSmall, Known, fallAt, orderFault}
 use Rattle.order.proofs.Ranks.{rows-from, rows-end, twice-hit, twice-end}
 

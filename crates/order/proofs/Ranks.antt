@@ -13,9 +13,11 @@ use Rattle.bitml.specs.Rows.{Row, has, rankOf, repeated}
 use Rattle.bitml.proofs.Lists.{or-no-l, or-no-r, all-head, all-tail, all-append, at-replicate}
 use Rattle.bitml.proofs.Sorting.{rank-swap}
 use Rattle.bitml.proofs.Counting.{at-store}
-use Rattle.tables.proofs.Laws.{firstOf-getD}
-use Rattle.requests.specs.Rows.{rowIn, rowsOf, row, mostRank}
-use Rattle.requests.proofs.Laws.{rows-none, rows-next, rows-length}
+use Rattle.tables.proofs.Runs.{firstOf-getD}
+use Rattle.tables.specs.Entries.{mostNodes}
+use Rattle.buffer.specs.Buffer.{rowIn, rowsOf, row}
+use Rattle.buffer.proofs.Buffer.{rows-none, rows-next, rows-length}
+use Rattle.requests.specs.Rows.{mostRank}
 use Rattle.order.specs.Nodes.{RowsSmall, Known, hasBy}
 
 -- ---- a list from an index on
@@ -56,8 +58,8 @@ pub known-has : (R : List Row) (A : List ℕ) → Known R A → (m : ℕ) → ha
 unfolding hasBy
 known-has R A kn m = has-rank R (kn .some) m ∙ ap (λ k. not (eqb k 0)) (sym (kn .rank m))
 
-pub known-none : Known [] (replicate 512 0)
-known-none = record { long = length-replicate {A = ℕ} 512 0; rank = λ m. at-replicate 512 m 0; some = nil; most = λ m. omega (arith, at-replicate {A = ℕ} 512 m 0) }
+pub known-none : Known [] (replicate mostNodes 0)
+known-none = record { long = length-replicate {A = ℕ} mostNodes 0; rank = λ m. at-replicate mostNodes m 0; some = nil; most = λ m. omega (arith, at-replicate {A = ℕ} mostNodes m 0) }
 
 -- ---- repeated nodes
 

@@ -8,20 +8,22 @@ use lib.Dec.{eqb}
 use Rattle.bitml.specs.Lists.{All}
 use Rattle.bitml.specs.Rows as bitml
 use Rattle.bitml.specs.Rows.{Row, rankOf, orElse, repeated, falling}
-use Rattle.requests.specs.Rows.{rowIn, mostRank, mostRows}
+use Rattle.tables.specs.Entries.{mostNodes}
+use Rattle.buffer.specs.Buffer.{rowWide, rowIn}
+use Rattle.requests.specs.Rows.{mostRank, mostRows}
 use Rattle.order.specs.declared.Fault.{Fault}
 
 -- What the reader promises of n rows, by no table: their nodes are within the array, and no rank is 0
 pub record RowsSmall (u : List ℕ) (n : ℕ) : Type 0 where
   pub few : n ≤ mostRows
-  pub long : 3 * n ≤ length u
-  pub node : (i : ℕ) → i < n → rowIn u i .node < 512
+  pub long : rowWide * n ≤ length u
+  pub node : (i : ℕ) → i < n → rowIn u i .node < mostNodes
   pub some : (i : ℕ) → i < n → 0 < rowIn u i .rank
   pub most : (i : ℕ) → i < n → rowIn u i .rank ≤ mostRank
 
 -- A has the rank of each node by the rows R, and 0 where it has no row
 pub record Known (R : List Row) (A : List ℕ) : Type 0 where
-  pub long : length A ≡ 512
+  pub long : length A ≡ mostNodes
   pub rank : (m : ℕ) → getD A m 0 ≡ rankOf R m
   pub some : All (λ r. 0 < r .rank) R
   pub most : (m : ℕ) → getD A m 0 ≤ mostRank

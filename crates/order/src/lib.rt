@@ -1,11 +1,13 @@
 // The nodes of rows that anyone gives, in one pass: two rows of one node, and rows that fall.
+use buffer::row_node;
+use buffer::row_rank;
 use tables::Sheet;
 ghost use mathlib.Core.Path.{_≡_};
 ghost use mathlib.Core.List.{[]};
 ghost use Prim.Native.Nat.{_+_, _<_};
 ghost use lib.ListN.{drop};
 ghost use Rattle.bitml.specs.Rows.{repeated, orElse};
-ghost use Rattle.requests.specs.Rows.{rowsOf};
+ghost use Rattle.buffer.specs.Buffer.{rowsOf};
 ghost use Rattle.order.specs.Nodes.{RowsSmall, Known, asFault, fallAt, orderFault};
 
 // The numbers of the refusals: the node has a row already, the node is below that of the row before.
@@ -29,14 +31,14 @@ fn unordered(rows: &[usize], n: usize, from: usize, ranks: &mut [usize; Sheet::N
 {
     let mut j = from;
     while j < n {
-        let m = rows[3 * j];
+        let m = row_node(rows, j);
         if ranks[m] != 0 {
             return Fault {
                 number: REPEATED,
                 place: j + 1,
             };
         }
-        ranks[m] = rows[3 * j + 2];
+        ranks[m] = row_rank(rows, j);
         j += 1;
     }
     Fault {
@@ -56,11 +58,11 @@ pub fn index(rows: &[usize], n: usize, ranks: &mut [usize; Sheet::NODES]) -> Fau
     let mut above = 0;
     let mut i = 0;
     while i < n {
-        let m = rows[3 * i];
+        let m = row_node(rows, i);
         if m < above {
             return unordered(rows, n, i, ranks);
         }
-        ranks[m] = rows[3 * i + 2];
+        ranks[m] = row_rank(rows, i);
         above = m + 1;
         i += 1;
     }

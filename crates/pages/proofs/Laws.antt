@@ -11,7 +11,7 @@ use lib.Seq.{getD-set-same, getD-set-other, ext-getD, length-take-le, getD-take,
 use lib.Dec.{eqb}
 use borrow.Author.Tests.{eqb-true, eqb-false}
 use Rattle.tables.specs.Entries.{firstOf}
-use Rattle.tables.proofs.Laws.{firstOf-length, firstOf-agree, firstOf-getD, firstOf-set}
+use Rattle.tables.proofs.Runs.{firstOf-length, firstOf-agree, firstOf-getD, firstOf-set}
 use Rattle.pages.specs.Pages.{size, start, cellsLong, Pages, pagesIn, put}
 
 -- ---- sections lie one behind the other

@@ -9,11 +9,12 @@ use Rattle.bitml.specs.Lists.{gather, below, upFrom}
 use Rattle.bitml.specs.Sheet.{Sheet}
 use Rattle.bitml.specs.Rows.{Row}
 use Rattle.bitml.specs.Rule as rule
-use Rattle.bitml.specs.Answers.{Line, Answer, printed, noRow, padded, madeLines, madeRows, madeBy, makingAll, madeForAll, answer}
+use Rattle.bitml.specs.Answers.{Line, Answer, printed, noRow, padded, madeLines, madeRows, madeBy, makingAll, madeForAll, answer, placesOfOne}
 use Rattle.bitml.proofs.Lists.{all-of, up-mem, gather-cong, gather-map}
 use Rattle.bitml.proofs.Counting.{gather-split}
 use Rattle.tables.specs.Entries.{Entries}
 use Rattle.tables.specs.SheetOf.{sheetOf}
+use Rattle.buffer.specs.Buffer.{placesOfAll}
 use Rattle.reading.specs.Promises.{Promises}
 use Rattle.reading.specs.Request.{request, make, makeAll, readRequest}
 use Rattle.promises.specs.Texts.{PromisedWhole}
@@ -26,7 +27,7 @@ use Rattle.lent.specs.Structs.{noRow as noStruct}
 use Rattle.writing.specs.Back.{Text}
 use Rattle.verdicts.proofs.Verdicts.{made-few}
 use Rattle.verdicts.proofs.Parties.{places-length, padded-length}
-use Rattle.checker.specs.Entry.{placesOfAll, answerFor, answerTo, placesOf, textIn}
+use Rattle.checker.specs.Entry.{answerFor, answerTo, placesOf, textIn}
 use Rattle.checker.specs.Demands.{Room}
 use Rattle.checker.proofs.Entry.{all-enough}
 use Rattle.checker.proofs.Demands.{answer-read}
@@ -48,9 +49,9 @@ unfolding structOf
 zeros-are zero = refl
 zeros-are (suc k) = ap (λ xs. noStruct ∷ xs) (zeros-are k)
 
-padded-are : (R : List Row) → map structOf (padded R) ≡ map structOf R ++ replicate (512 - length R) noStruct
+padded-are : (R : List Row) → map structOf (padded R) ≡ map structOf R ++ replicate (placesOfOne - length R) noStruct
 unfolding padded
-padded-are R = map-append structOf R (replicate (512 - length R) noRow) ∙ ap (λ xs. map structOf R ++ xs) (zeros-are (512 - length R))
+padded-are R = map-append structOf R (replicate (placesOfOne - length R) noRow) ∙ ap (λ xs. map structOf R ++ xs) (zeros-are (placesOfOne - length R))
 
 -- the part between a front and what is behind
 middle : {A : Type 0} (n m : ℕ) (xs ys zs : List A) → n ≡ length xs → m ≡ length ys → take m (drop n (xs ++ (ys ++ zs))) ≡ ys
@@ -71,18 +72,18 @@ module _ (K : ℕ) (E : Entries) (ok : Promises K E) where
   abbrev block : ℕ → List Row
   block p = padded (rows p)
 
-  few : (p : ℕ) → length (rows p) ≤ 512
+  few : (p : ℕ) → length (rows p) ≤ placesOfOne
   few = made-few K E ok
 
   all-lines : answer (makingAll S) ≡ printed (gather lines (below K)) (gather block (below K))
   unfolding answer madeForAll sheetOf
   all-lines = refl
 
-  module _ (places : ℕ) (enough : 8192 ≤ places) where
+  module _ (places : ℕ) (enough : placesOfAll ≤ places) where
     abbrev held : List Struct
     held = map structOf (gather block (below K)) ++ replicate (places - length (gather block (below K))) noStruct
 
-    all-rows : (p : ℕ) → p < K → take 512 (drop (512 * p) held) ≡ map structOf (rows p) ++ replicate (512 - length (rows p)) noStruct
+    all-rows : (p : ℕ) → p < K → take placesOfOne (drop (placesOfOne * p) held) ≡ map structOf (rows p) ++ replicate (placesOfOne - length (rows p)) noStruct
     all-rows p h =
         let A = gather block (below p) in
         let C = gather block (upFrom (p + 1) (K - (p + 1))) in
@@ -90,14 +91,14 @@ module _ (K : ℕ) (E : Entries) (ok : Promises K E) where
         let e : held ≡ map structOf A ++ (map structOf (block p) ++ (map structOf C ++ z)) =
         ap (λ xs. map structOf xs ++ z) (gather-split block p K h) ∙ ap (λ xs. xs ++ z) (map-append structOf A (block p ++ C) ∙ ap (λ xs. map structOf A ++ xs) (map-append structOf (block p) C))
         ∙ append-assoc (map structOf A) (map structOf (block p) ++ map structOf C) z ∙ ap (λ xs. map structOf A ++ xs) (append-assoc (map structOf (block p)) (map structOf C) z) in
-        ap (λ xs. take 512 (drop (512 * p) xs)) e
-        ∙ middle (512 * p) 512 (map structOf A) (map structOf (block p)) (map structOf C ++ z) (omega (arith, length-map A structOf, places-length S few p)) (omega (arith, length-map (block p) structOf, padded-length (rows p) (few p)))
+        ap (λ xs. take placesOfOne (drop (placesOfOne * p) xs)) e
+        ∙ middle (placesOfOne * p) placesOfOne (map structOf A) (map structOf (block p)) (map structOf C ++ z) (omega (arith, length-map A structOf, places-length S few p)) (omega (arith, length-map (block p) structOf, padded-length (rows p) (few p)))
         ∙ padded-are (rows p)
 
-    no-more : drop (512 * K) held ≡ replicate (places - 512 * K) noStruct
+    no-more : drop (placesOfOne * K) held ≡ replicate (places - placesOfOne * K) noStruct
     no-more =
         let R = gather block (below K) in
-        let e : 512 * K ≡ length (map structOf R) = omega (arith, length-map R structOf, places-length S few K) in
+        let e : placesOfOne * K ≡ length (map structOf R) = omega (arith, length-map R structOf, places-length S few K) in
         ap (λ k. drop k held) e ∙ drop-append-seam (map structOf R) (replicate (places - length R) noStruct) ∙ ap (λ k. replicate (places - k) noStruct) (places-length S few K)
 
 -- ---- a request
@@ -112,13 +113,13 @@ module _ (s : List ℕ) (hs : Text s) (places text : ℕ) (room : Room s places 
   whole = answer-read s places text room K E makeAll e ∙ sym (all-enough places (sheetOf K E) enough) ∙ all-lines K E promises
 
   abbrev alone : ℕ → Answer
-  alone p = answerTo (asking s p) 512 text
+  alone p = answerTo (asking s p) placesOfOne text
 
   separate : (p : ℕ) → p < K → alone p ≡ printed (lines K E promises p) (rows K E promises p)
   unfolding answerFor answer madeBy
   separate p h =
-      let fits : Room (asking s p) 512 text = record { bytes = asks-short s hs K E e p; enough-places = omega arith; enough-text = room .enough-text } in
-      answer-read (asking s p) 512 text fits K E (make p) (asks s hs K E e p h)
+      let fits : Room (asking s p) placesOfOne text = record { bytes = asks-short s hs K E e p; enough-places = omega arith; enough-text = room .enough-text } in
+      answer-read (asking s p) placesOfOne text fits K E (make p) (asks s hs K E e p h)
 
   each : (p : ℕ) → List·Memᴰ p (below K) → alone p ≡ printed (lines K E promises p) (rows K E promises p)
   each p m = separate p (let h = all-of (up-mem 0 K) m in omega (arith, h .1))
@@ -137,13 +138,13 @@ module _ (s : List ℕ) (hs : Text s) (places text : ℕ) (room : Room s places 
       ap (textIn text) whole ∙ gather-text (lines K E promises) (below K)
       ∙ gather-cong _ (λ p. textIn text (alone p)) (below K) λ p m. sym (ap (textIn text) (each p m))
 
-  rows-are : (p : ℕ) → p < K → take 512 (drop (512 * p) (placesOf places (answerTo s places text))) ≡ placesOf 512 (alone p)
+  rows-are : (p : ℕ) → p < K → take placesOfOne (drop (placesOfOne * p) (placesOf places (answerTo s places text))) ≡ placesOf placesOfOne (alone p)
   unfolding placesOf
-  rows-are p h = ap (λ a. take 512 (drop (512 * p) (placesOf places a))) whole ∙ all-rows K E promises places enough p h ∙ sym (ap (placesOf 512) (separate p h))
+  rows-are p h = ap (λ a. take placesOfOne (drop (placesOfOne * p) (placesOf places a))) whole ∙ all-rows K E promises places enough p h ∙ sym (ap (placesOf placesOfOne) (separate p h))
 
-  rest-is : drop (512 * K) (placesOf places (answerTo s places text)) ≡ replicate (places - 512 * K) noStruct
+  rest-is : drop (placesOfOne * K) (placesOf places (answerTo s places text)) ≡ replicate (places - placesOfOne * K) noStruct
   unfolding placesOf
-  rest-is = ap (λ a. drop (512 * K) (placesOf places a)) whole ∙ no-more K E promises places enough
+  rest-is = ap (λ a. drop (placesOfOne * K) (placesOf places a)) whole ∙ no-more K E promises places enough
 
 -- THE CLAIM
 pub of-parties : OfParties

@@ -24,6 +24,8 @@ walk (b ∷ r) p = walk r (stepOf b p)
 unfoldable pub placeOf : List ℕ → ℕ → Place
 placeOf s at = walk (take at s) (record { line = 1; field = 1 })
 
+-- ---- the limit on bytes
+
 -- a byte b at i: a comma stands before a field, and so does the byte after an LF; q stood before the last field until then
 unfoldable pub markOf : ℕ → ℕ → ℕ → ℕ
 markOf b i q = cond (eqb b comma) i (cond (eqb b lf) (i + 1) q)

@@ -1,8 +1,9 @@
 // Where a refusal stands: the line and field of a position; and where the sheet's limit on bytes is passed.
 ghost use mathlib.Core.Path.{_≡_};
-ghost use Prim.Native.Nat.{_≤_, _<_, _^_};
+ghost use Prim.Native.Nat.{_+_, _≤_, _<_, _^_};
 ghost use lib.ListN.{length};
-ghost use Rattle.places.specs.Places.{placeOf, stepOf, markOf, passingOf};
+ghost use Rattle.places.specs.Places.{placeOf, passingOf};
+ghost use Rattle.places.specs.Counting.{sameOf, countOf, startOf, fieldIn};
 
 const COMMA: u8 = b',';
 
@@ -14,38 +15,56 @@ pub struct Place {
     pub field: usize,
 }
 
-// The place after one byte more.
-fn step(b: u8, p: Place) -> Place
-    requires { ⌜ (p .line < 2 ^ 63) × (p .field < 2 ^ 63) ⌝ }
-    ensures { λ r. ⌜ r ≡ stepOf b p ⌝ }
+// 1 for a byte that is b, 0 for any other.
+fn same(x: u8, b: u8) -> u32
+    ensures { λ r. ⌜ (r ≡ sameOf x b) × (r ≤ 1) ⌝ }
 {
-    match b {
-        LF => Place {
-            line: p.line + 1,
-            field: 1,
-        },
-        COMMA => {
-            if p.field < 2 {
-                return Place {
-                    line: p.line,
-                    field: 3,
-                };
-            }
-            Place {
-                line: p.line,
-                field: p.field + 1,
-            }
-        }
-        _ => {
-            if p.field < 2 {
-                return Place {
-                    line: p.line,
-                    field: 2,
-                };
-            }
-            p
-        }
+    if x == b {
+        return 1;
     }
+    0
+}
+
+// How many of the n bytes from a position on are b. In 32 bits, more of them are counted at once.
+fn count(s: &[u8], from: usize, n: usize, b: u8) -> usize
+    requires { ⌜ (from + n ≤ length (now s)) × (length (now s) ≤ 65536) ⌝ }
+    ensures { λ r. ⌜ (r ≡ countOf b (now (s .entry)) from n) × (r ≤ n) ⌝ }
+{
+    let mut c: u32 = 0;
+    let mut i: usize = 0;
+    while i < n {
+        c += same(s[from + i], b);
+        i += 1;
+    }
+    c as usize
+}
+
+// Where the line of a position starts.
+fn line_start(s: &[u8], at: usize) -> usize
+    requires { ⌜ at ≤ length (now s) ⌝ }
+    ensures { λ r. ⌜ (r ≡ startOf (now (s .entry)) at) × (r ≤ at) ⌝ }
+{
+    let mut i = at;
+    while 0 < i {
+        let j = i - 1;
+        if s[j] == LF {
+            return i;
+        }
+        i = j;
+    }
+    0
+}
+
+// The field that is due n bytes behind the start of their line.
+fn field_in(s: &[u8], start: usize, n: usize) -> usize
+    requires { ⌜ (start + n ≤ length (now s)) × (length (now s) ≤ 65536) ⌝ }
+    ensures { λ r. ⌜ r ≡ fieldIn (now (s .entry)) start n ⌝ }
+{
+    if n == 0 {
+        return 1;
+    }
+    let commas = count(s, start, n, COMMA);
+    2 + commas
 }
 
 // The place of a position within the request.
@@ -53,13 +72,10 @@ fn place_at(s: &[u8], at: usize) -> Place
     requires { ⌜ (at ≤ length (now s)) × (length (now s) ≤ 65536) ⌝ }
     ensures { λ r. ⌜ r ≡ placeOf (now (s .entry)) at ⌝ }
 {
-    let mut p = Place { line: 1, field: 1 };
-    let mut i = 0;
-    while i < at {
-        p = step(s[i], p);
-        i += 1;
-    }
-    p
+    let start = line_start(s, at);
+    let line = 1 + count(s, 0, at, LF);
+    let field = field_in(s, start, at - start);
+    Place { line, field }
 }
 
 // The place of a position: its line, and the number of the field that is due there. Past the end it is the end's.
@@ -74,28 +90,21 @@ pub fn place_of(s: &[u8], at: usize) -> Place
     place_at(s, at)
 }
 
-// The position before the last field, after a byte b at i more; q stood before the last field until then.
-fn mark(b: u8, i: usize, q: usize) -> usize
-    requires { ⌜ i < 2 ^ 63 ⌝ }
-    ensures { λ r. ⌜ r ≡ markOf b i q ⌝ }
-{
-    match b {
-        COMMA => i,
-        LF => i + 1,
-        _ => q,
-    }
-}
-
-// The position before the last field that starts within the first n bytes.
+// The position before the last field that starts within the first n bytes: the comma before it, or the byte behind an LF. It is near the
+// end of these bytes, so it is looked for from there.
 pub fn passing(s: &[u8], n: usize) -> usize
     requires { ⌜ (n ≤ length (now s)) × (n < 2 ^ 63) ⌝ }
     ensures { λ r. ⌜ r ≡ passingOf (now (s .entry)) n ⌝ }
 {
-    let mut q = 0;
-    let mut i = 0;
-    while i < n {
-        q = mark(s[i], i, q);
-        i += 1;
+    let mut i = n;
+    while 0 < i {
+        let j = i - 1;
+        let b = s[j];
+        match b {
+            COMMA => return j,
+            LF => return i,
+            _ => i = j,
+        }
     }
-    q
+    0
 }

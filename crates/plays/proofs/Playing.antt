@@ -11,7 +11,7 @@ use Rattle.bitml.specs.Sheet.{Sheet}
 use Rattle.bitml.specs.Ledger.{Ledger, Event, wait, sign, tell, fire, renew, refusal, stipulated}
 use Rattle.bitml.specs.Limits.{within, orLimit, limitedRefusal, limitedStep, answers, limitedPlay}
 use Rattle.bitml.specs.Answers.{playing, eventLine, eventLines, endOf, playLines, answer}
-use Rattle.buffer.specs.Filled.{filled}
+use Rattle.buffer.specs.Buffer.{filled}
 use Rattle.texts.specs.Text.{lineText, linesText}
 use Rattle.texts.specs.Wrote.{Wrote}
 use Rattle.texts.proofs.Coming.{Coming, coming-line, coming-none}

@@ -6,6 +6,7 @@ use mathlib.Core.List.{List, [], _∷_, _++_}
 use lib.ListN.{length, getD}
 use lib.Dec.{ltb, eqb}
 use Rattle.bitml.specs.Rows.{Row}
+use Rattle.buffer.specs.Buffer.{row}
 use Rattle.fields.specs.Field.{comma, spelled}
 use Rattle.fields.specs.declared.Got.the-variants.{Value, Bad}
 use Rattle.requests.specs.declared.Commitment.{Commitment}
@@ -15,7 +16,7 @@ use Rattle.requests.specs.declared.Part.the-variants as part
 use Rattle.requests.specs.declared.RowLine.{RowLine}
 use Rattle.requests.specs.declared.RowLine.the-variants as line
 use Rattle.requests.specs.Part.{mostValue, valueAt, pastOf, pastValueAt, pastValuesAt, participantAt, lastParticipantAt, makeAt, makeAllAt, whyAt, checkAt, playAt, lastPartAt}
-use Rattle.requests.specs.Rows.{mostRank, mostRows, row, Rows, rowsWith, rowNumbersAt, rowAt, noRoomAt, withLine, rowsFrom, rowsAt}
+use Rattle.requests.specs.Rows.{mostRank, mostRows, Rows, rowsWith, rowNumbersAt, rowAt, noRoomAt, withLine, rowsFrom, rowsAt}
 use Rattle.events.specs.declared.Event.{Event}
 use Rattle.events.specs.declared.Event.the-variants as event
 use Rattle.events.specs.declared.Pair.{Pair}

@@ -7,8 +7,9 @@ use Rattle.bitml.specs.Rows.{Row}
 use Rattle.fields.specs.declared.Got.the-variants as got
 use Rattle.tables.specs.Entries.{Entries}
 use Rattle.tables.specs.SheetOf.{nodeEntryAt, defEntryAt}
+use Rattle.buffer.specs.Buffer.{row}
 use Rattle.requests.specs.Part.{pastValuesAt}
-use Rattle.requests.specs.Rows.{RowFits, row, mostRows}
+use Rattle.requests.specs.Rows.{RowFits, mostRows}
 use Rattle.events.specs.declared.Lines.the-variants as lines
 use Rattle.events.specs.Events.{eventsAt}
 use Rattle.reading.specs.Request.{LastPart, make, makeAll, why, check, play}

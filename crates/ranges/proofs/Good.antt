@@ -7,7 +7,7 @@ use lib.ListN.{length}
 use Rattle.fields.specs.Field.{numberAt, wordAt, firstAt, lineEndAt}
 use Rattle.fields.proofs.Laws.{number-max, number-end, word-end, word-on}
 use Rattle.fields.proofs.Ranges.{first-end, line-end-next}
-use Rattle.tables.specs.Entries.{NodeEntry, BranchEntry, DefEntry}
+use Rattle.tables.specs.Entries.{NodeEntry, BranchEntry, DefEntry, mostNodes, mostBranches}
 use Rattle.tables.specs.State.{State, entries, withNode, withBranch, withDef, withListed, withCell}
 use Rattle.steps.specs.Steps.{Outcome, toPlace, goOn}
 use Rattle.ranges.specs.Ranged.{NodeRange, BranchRange, DefRange}
@@ -19,7 +19,7 @@ use Rattle.ranges.proofs.Sound.{Sound, sound-node, sound-branch, sound-
 -- far; a cell took two bytes. The definitions are ds, and the nodes began with ns
 pub record Good (s : List ℕ) (K F : ℕ) (ds : List DefEntry) (ns : List NodeEntry) (m n : ℕ) (a : State) : Type 0 where
   pub sound : Sound K F (entries a)
-  pub few-branches : length (a .branches) + m ≤ 1024
+  pub few-branches : length (a .branches) + m ≤ mostBranches
   pub few-listed : length (a .listed) ≤ 8 * length (a .branches) + 24 * length (a .defs) + n
   pub paid : 2 * length (a .cells) ≤ a .at
   pub inside : a .at ≤ length s
@@ -59,7 +59,7 @@ module _ {s : List ℕ} {K F : ℕ} {ds : List DefEntry} {ns : List NodeEntry} {
   -- ---- an entry more
 
   -- the nodes with it are what nodes begin with from now on
-  pub good-node : (e : NodeEntry) → length (a .nodes) < 512 → NodeRange (length (a .defs)) e → Good s K F ds (a .nodes ++ (e ∷ [])) m n (withNode e a)
+  pub good-node : (e : NodeEntry) → length (a .nodes) < mostNodes → NodeRange (length (a .defs)) e → Good s K F ds (a .nodes ++ (e ∷ [])) m n (withNode e a)
   good-node e l r =
       record { sound = sound-node a (h .sound) e l r; few-branches = h .few-branches; few-listed = h .few-listed; paid = h .paid; inside = h .inside; same-defs = h .same-defs; kept = begins-self _ }
 
@@ -113,7 +113,7 @@ module _ {s : List ℕ} {K F : ℕ} {ds : List DefEntry} {ns : List NodeEntry} {
       }
 
   -- there is room for a branch, which is due now
-  pub good-due : length (a .branches) < 1024 → Good s K F ds ns 1 n a
+  pub good-due : length (a .branches) < mostBranches → Good s K F ds ns 1 n a
   good-due l = record { sound = h .sound; few-branches = omega arith; few-listed = h .few-listed; paid = h .paid; inside = h .inside; same-defs = h .same-defs; kept = h .kept }
 
   -- fewer nodes are remembered

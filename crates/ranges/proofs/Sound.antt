@@ -5,14 +5,14 @@ use native.Mathlib.Omega.{arith}
 use lib.ListN.{length}
 use Rattle.bitml.specs.Lists.{All, nil, cons}
 use Rattle.bitml.proofs.Lists.{all-append, all-imp}
-use Rattle.tables.specs.Entries.{NodeEntry, BranchEntry, DefEntry, Entries}
+use Rattle.tables.specs.Entries.{NodeEntry, BranchEntry, DefEntry, Entries, mostNodes}
 use Rattle.tables.specs.State.{State, entries, withNode, withBranch, withDef, withListed, withCell}
 use Rattle.tables.specs.SheetOf.{defEntryAt}
 use Rattle.ranges.specs.Ranged.{NodeRange, BranchRange, DefRange, secretsAt}
 use Rattle.ranges.proofs.Lists.{Begins, begins-self, begins-more, begins-length, begins-at, length-more, all-entry, below-grown, def-grown}
 
 pub record Sound (K F : ℕ) (E : Entries) : Type 0 where
-  pub few-nodes : length (E .nodes) ≤ 512
+  pub few-nodes : length (E .nodes) ≤ mostNodes
   pub nodes : All (NodeRange (length (E .defs))) (E .nodes)
   pub branches : All (BranchRange K F E) (E .branches)
   pub defs : All (λ (e : DefEntry). DefRange K (E .listed) (e .first) (e .secrets)) (E .defs)
@@ -59,7 +59,7 @@ module _ {E E′ : Entries} (h : All (NodeRange (length (E .defs))) (E .nodes)) 
 -- ---- an entry more
 
 module _ {K F : ℕ} (a : State) (h : Sound K F (entries a)) where
-  pub sound-node : (e : NodeEntry) → length (a .nodes) < 512 → NodeRange (length (a .defs)) e → Sound K F (entries (withNode e a))
+  pub sound-node : (e : NodeEntry) → length (a .nodes) < mostNodes → NodeRange (length (a .defs)) e → Sound K F (entries (withNode e a))
   sound-node e l r =
       let g : Grown (entries a) (entries (withNode e a)) = record { nodes = begins-more _ e; defs = begins-self _; listed = begins-self _; cells = begins-self _ } in
       record {

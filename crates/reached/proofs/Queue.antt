@@ -13,7 +13,7 @@ use borrow.Author.Tests.{ne-eqb}
 use Rattle.bitml.specs.Lists.{sum}
 use Rattle.bitml.proofs.Lists.{sum-set, at-replicate}
 use Rattle.bitml.proofs.Counting.{at-store}
-use Rattle.tables.specs.Entries.{Entries}
+use Rattle.tables.specs.Entries.{Entries, mostNodes}
 use Rattle.tables.specs.SheetOf.{nodeEntryAt, branchEntryAt, defEntryAt, branchCount, branchNumber}
 use Rattle.reading.specs.Promises.{Promises}
 use Rattle.reached.specs.Marks.{DefReached, Marked, Grown, BranchLed, NodeLed, DefLed, LedUpTo, Spread, flag}
@@ -180,10 +180,10 @@ head-in {Q = Q} h mk mk′ g l =
 -- ---- spreading
 
 module _ (E : Entries) (D M : List ℕ) where
-  pub spread-none : length M ≡ 512 → ((m : ℕ) → getD M m 0 ≡ 0) → Spread E D M 0
+  pub spread-none : length M ≡ mostNodes → ((m : ℕ) → getD M m 0 ≡ 0) → Spread E D M 0
   spread-none e f = record { long = e; same = λ m h. absurd (omega arith); none = λ m h. f m }
 
-  pub spread-more : (k : ℕ) → k < 512 → Spread E D M k → Spread E D (set M k (getD D (nodeEntryAt E k .definition) 0)) (k + 1)
+  pub spread-more : (k : ℕ) → k < mostNodes → Spread E D M k → Spread E D (set M k (getD D (nodeEntryAt E k .definition) 0)) (k + 1)
   spread-more k h s =
       let l : k < length M = omega (arith, s .long) in
       record {
@@ -195,8 +195,8 @@ module _ (E : Entries) (D M : List ℕ) where
 
 -- ---- at first
 
-pub no-marks : (length (replicate {A = ℕ} 512 0) ≡ 512) × ((m : ℕ) → _≡_ {A = ℕ} (getD (replicate 512 0) m 0) 0)
-no-marks = (length-replicate {A = ℕ} 512 0, λ m. at-replicate 512 m 0)
+pub no-marks : (length (replicate {A = ℕ} mostNodes 0) ≡ mostNodes) × ((m : ℕ) → _≡_ {A = ℕ} (getD (replicate mostNodes 0) m 0) 0)
+no-marks = (length-replicate {A = ℕ} mostNodes 0, λ m. at-replicate mostNodes m 0)
 
 pub marks-none : (K : ℕ) (E : Entries) → Marked K E (replicate 32 0) (replicate 32 0) 0
 marks-none K E = record {

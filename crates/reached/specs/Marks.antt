@@ -8,7 +8,7 @@ use lib.ListN.{length, getD}
 use lib.Dec.{eqb}
 use Rattle.bitml.specs.Lists.{sum}
 use Rattle.bitml.specs.Rule.{reached}
-use Rattle.tables.specs.Entries.{Entries}
+use Rattle.tables.specs.Entries.{Entries, mostNodes}
 use Rattle.tables.specs.SheetOf.{sheetOf, nodeEntryAt, branchEntryAt, defEntryAt, branchCount, branchNumber}
 
 abbrev pub flag : ℕ → ℕ
@@ -48,7 +48,7 @@ LedUpTo E M h = (d : ℕ) → 0 < getD M d 0 → getD M d 0 ≤ h → DefLed E M
 
 -- The first k nodes have the marks of their definitions, and the others none
 pub record Spread (E : Entries) (D M : List ℕ) (k : ℕ) : Type 0 where
-  pub long : length M ≡ 512
+  pub long : length M ≡ mostNodes
   pub same : (m : ℕ) → m < k → getD M m 0 ≡ getD D (nodeEntryAt E m .definition) 0
   pub none : (m : ℕ) → k ≤ m → getD M m 0 ≡ 0
 

@@ -13,7 +13,7 @@ ghost use mathlib.Core.Bool.{true};
 ghost use Prim.Native.Nat.{ℕ, _<_};
 ghost use lib.ListN.{length, getD};
 ghost use Rattle.bitml.specs.Rule as rule;
-ghost use Rattle.tables.specs.Entries.{held, people};
+ghost use Rattle.tables.specs.Entries.{held, people, mostNodes};
 ghost use Rattle.tables.specs.SheetOf.{branchEntryAt, branchCount, sheetIn};
 ghost use Rattle.sheets.specs.Ready.{Ready, Indexed};
 ghost use Rattle.reached.specs.Marks.{DefReached, Marked, Grown, BranchLed, NodeLed, DefLed, Spread, MarksReached};
@@ -140,7 +140,7 @@ fn spread(t: &[usize], seen: &[usize; Sheet::DEFS], marks: &mut [usize; Sheet::N
 // Marks the reached nodes.
 pub fn reach(t: &[usize], marks: &mut [usize; Sheet::NODES], x: &[usize])
     requires { ⌜ Ready (now t) ⌝ }
-    requires { ⌜ (length (now marks) ≡ 512) × ((m : ℕ) → getD (now marks) m 0 ≡ 0) ⌝ }
+    requires { ⌜ (length (now marks) ≡ mostNodes) × ((m : ℕ) → getD (now marks) m 0 ≡ 0) ⌝ }
     requires { ⌜ Indexed (held (now t)) (now x) ⌝ }
     ensures { λ _. ⌜ MarksReached (people (now (t .entry))) (held (now (t .entry))) (now (marks .exit)) ⌝ }
 {

@@ -16,7 +16,7 @@ use Rattle.bitml.specs.Rule.{rankAt}
 use Rattle.bitml.proofs.Counting.{keep-none, keep-keep}
 use Rattle.bitml.proofs.Lists.{all-of, all-mem, keep-all, keep-imp, up-mem, mem-keep, mem-up}
 use Rattle.bitml.proofs.Bound.{inner, Chain, Preorder, rank-bound}
-use Rattle.tables.specs.Entries.{Entries}
+use Rattle.tables.specs.Entries.{Entries, mostNodes, mostBranches}
 use Rattle.tables.specs.SheetOf.{nodeEntryAt, branchEntryAt, defEntryAt, branchNumbers, branchCount, branchNumber, partNumbers, partCount, actionOf, branchOf, sheetOf}
 use Rattle.tables.proofs.SheetOf.{defs-are, root-is, nodes-are, node-def, branches-are, count-of, branch-of, branch-small, branch-node, parts-none, parts-split, parts-reveal}
 use Rattle.reading.specs.Promises.{Promises, Inside, over}
@@ -94,7 +94,7 @@ module _ (K : ℕ) (E : Entries) (ok : Promises K E) where
       absurd (omega (arith, q, ok .limits .branches)))
       (λ w. w) (ok .node m h .place)
 
-  pub parent-small : (n : ℕ) → n < length (E .nodes) → nodeEntryAt E n .parent < 1025
+  pub parent-small : (n : ℕ) → n < length (E .nodes) → nodeEntryAt E n .parent < mostBranches + 1
   parent-small n h =
       ⊎-elim
       (λ e. let q = ap (λ m. nodeEntryAt E m .parent) e ∙ ok .def (nodeEntryAt E n .definition) (ok .node n h .definition) .top in omega (arith, q))
@@ -102,10 +102,10 @@ module _ (K : ℕ) (E : Entries) (ok : Promises K E) where
       (ok .node n h .place)
 
   -- whom a branch pays, how many parts it has, its contract or its definition: a number below 512 in each case
-  pub argument-small : (b : ℕ) → b < length (E .branches) → branchEntryAt E b .arg < 512
+  pub argument-small : (b : ℕ) → b < length (E .branches) → branchEntryAt E b .arg < mostNodes
   argument-small b h = go (branchEntryAt E b .kind) refl
     where
-      go : (k : ℕ) → branchEntryAt E b .kind ≡ k → branchEntryAt E b .arg < 512
+      go : (k : ℕ) → branchEntryAt E b .kind ≡ k → branchEntryAt E b .arg < mostNodes
       go zero e = omega (arith, ok .branch b h .withdraw e .payee, ok .limits .people .1)
       go (suc zero) e = let w = ok .branch b h .split e in omega (arith, w .parts, w .few)
       go (suc (suc zero)) e = omega (arith, ok .branch b h .reveal e .contract, ok .limits .nodes)

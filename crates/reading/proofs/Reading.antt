@@ -1,16 +1,16 @@
 -- How what the code read gives what the definition says. Assumes nothing.
-use Prim.Native.Nat.{ℕ, zero, suc, _≤_, _<_}
+use Prim.Native.Nat.{ℕ, zero, suc, _<_, _+_}
 use mathlib.Core.Path.{_≡_, refl, sym, ap, _∙_}
 use mathlib.Core.List.{List, []}
 use mathlib.Core.Bool.{cond}
 use native.Mathlib.Omega.{arith}
 use lib.ListN.{length, getD}
-use lib.Dec.{ltb, eqb}
+use lib.Dec.{ltb}
 use Rattle.fields.specs.declared.Got.{Got}
 use Rattle.fields.specs.declared.Got.the-variants.{Value, Bad}
-use Rattle.fields.specs.Field.{spelled, whenRead, belowAt, firstAt}
+use Rattle.fields.specs.Field.{whenRead, belowAt, firstAt}
 use Rattle.fields.proofs.Ranges.{below-end}
-use Rattle.tables.specs.Entries.{held, people, defIn}
+use Rattle.tables.specs.Entries.{held, people, defsFrom}
 use Rattle.tables.specs.SheetOf.{nodeEntryAt, defEntryAt}
 use Rattle.tables.proofs.Held.{held-nodes, held-defs, node-held, def-held}
 use Rattle.lines.specs.Sheet.{Sized, accepted, readSheet, whenAccepted}
@@ -22,7 +22,8 @@ use Rattle.requests.specs.declared.Part.the-variants as part
 use Rattle.requests.specs.declared.RowLine.{RowLine}
 use Rattle.requests.specs.declared.RowLine.the-variants as line
 use Rattle.bitml.specs.Rows.{Row}
-use Rattle.requests.specs.Rows.{countIn, rowNumbersAt, rowAt, Rows, rowsWith, withLine, mostRows, rowsFrom, rowsAt, rowsOf, RowsHeld}
+use Rattle.buffer.specs.Buffer.{rowsOf}
+use Rattle.requests.specs.Rows.{countIn, rowNumbersAt, rowAt, Rows, rowsWith, withLine, mostRows, rowsFrom, rowsAt, RowsHeld}
 use Rattle.requests.proofs.Sound.{rows-count}
 use Rattle.reading.specs.declared.Request.{Request}
 use Rattle.reading.specs.declared.Request.the-variants as code
@@ -84,10 +85,10 @@ module _ (s t : List ℕ) (p from n : ℕ) (g : Got) (u₀ u : List ℕ) (h : Ro
       rw (← rows-held s t from, a) (j t u)
 
 -- the secrets of definition 0, as the code finds them
-secrets-are : (s t : List ℕ) (at : ℕ) → Sized s at t → defEntryAt (held t) 0 .secrets ≡ getD t 10250 0
+secrets-are : (s t : List ℕ) (at : ℕ) → Sized s at t → defEntryAt (held t) 0 .secrets ≡ getD t (defsFrom + 2) 0
 secrets-are s t at z = ap (λ e. e .secrets) (def-held t 0 (omega (arith, held-defs t, z .some-defs)))
 
-pub from-sheet : (s t : List ℕ) (at : ℕ) → Sized s at t → (o x : Part) (r : Reading) → o ≡ lastPartAt s (people t) (getD t 10250 0) at → o ≡ x
+pub from-sheet : (s t : List ℕ) (at : ℕ) → Sized s at t → (o x : Part) (r : Reading) → o ≡ lastPartAt s (people t) (getD t (defsFrom + 2) 0) at → o ≡ x
     → r ≡ fromPart s (people t) (held t) x → r ≡ fromSheet s (accepted (people t) at (held t))
 unfolding fromSheet
 from-sheet s t at z o x r h i j = rw (secrets-are s t at z, ← h, i) j

@@ -4,7 +4,7 @@ use Prim.Native.Nat.{ℕ}
 use native.Mathlib.Omega.{arith}
 use lib.ListN.{getD}
 use Rattle.tables.specs.Entries.{nodeIn, branchIn, defIn, listedIn, cellIn, held, people, Within}
-use Rattle.tables.proofs.Laws.{firstOf-length}
+use Rattle.tables.proofs.Runs.{firstOf-length}
 use Rattle.reading.specs.Promises.{Sizes}
 
 pub sizes-within : (t : List ℕ) → Sizes (people t) (held t) → Within t

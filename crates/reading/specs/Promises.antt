@@ -7,22 +7,22 @@ use mathlib.Core.List.{map}
 use lib.ListN.{length}
 use lib.Dec.{ltb}
 use Rattle.bitml.specs.Lists.{sum, below}
-use Rattle.tables.specs.Entries.{Entries}
+use Rattle.tables.specs.Entries.{Entries, mostNodes, mostBranches, mostListed, mostCells, mostDefs}
 use Rattle.tables.specs.SheetOf.{nodeEntryAt, branchEntryAt, defEntryAt, listedAt, cellAt, branchCount, partNumbers, partCount, depositOf, ownerOf}
 
 -- "K participants (1 to 16), F definitions (1 to 32)"; "512 nodes, 1,024 branches". Of each definition at most 16 deposits and 8 owners are
 -- listed, and of each branch 8 secrets; a field of a condition has a cell, and there are fewer fields than "32,768 bytes"
 pub record Sizes (K : ℕ) (E : Entries) : Type 0 where
   pub people : (1 ≤ K) × (K ≤ 16)
-  pub defs : (1 ≤ length (E .defs)) × (length (E .defs) ≤ 32)
-  pub nodes : length (E .nodes) ≤ 512
-  pub branches : length (E .branches) ≤ 1024
-  pub listed : length (E .listed) ≤ 8960
-  pub cells : length (E .cells) ≤ 32768
+  pub defs : (1 ≤ length (E .defs)) × (length (E .defs) ≤ mostDefs)
+  pub nodes : length (E .nodes) ≤ mostNodes
+  pub branches : length (E .branches) ≤ mostBranches
+  pub listed : length (E .listed) ≤ mostListed
+  pub cells : length (E .cells) ≤ mostCells
 
 -- The parent of a root: no branch has this number
 abbrev pub noParent : ℕ
-noParent = 1024
+noParent = mostBranches
 
 -- "a branch may hold contracts": node n is one in a branch of an earlier node, of the same definition
 pub record Inside (E : Entries) (n : ℕ) : Type 0 where

@@ -13,7 +13,8 @@ use Rattle.requests.specs.declared.Part.{Part}
 use Rattle.requests.specs.declared.Part.the-variants as part
 use Rattle.requests.specs.Part.{lastPartAt}
 use Rattle.bitml.specs.Rows.{Row}
-use Rattle.requests.specs.Rows.{rowsOf, Rows, rowsAt}
+use Rattle.buffer.specs.Buffer.{rowsOf}
+use Rattle.requests.specs.Rows.{rowsAt}
 use Rattle.events.specs.declared.Lines.{Lines}
 use Rattle.events.specs.declared.Lines.the-variants as lines
 use Rattle.events.specs.Events.{eventsAt}

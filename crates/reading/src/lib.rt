@@ -12,7 +12,8 @@ ghost use mathlib.Core.Path.{_≡_};
 ghost use mathlib.Core.List.{List};
 ghost use Prim.Native.Nat.{ℕ, _≤_};
 ghost use lib.ListN.{length, getD};
-ghost use Rattle.tables.specs.Entries.{held, people, cellsFrom, Spacious};
+ghost use Rattle.tables.specs.Entries.{held, people, cellsFrom, Spacious, mostNodes};
+ghost use Rattle.buffer.specs.Buffer.{numbersOfOne};
 ghost use Rattle.lines.specs.Sheet.{Sized, accepted};
 ghost use Rattle.requests.specs.declared.Part.the-variants as part;
 ghost use Rattle.reading.specs.Request.{refusedAt, fromPart, fromSheet, readRequest, answered};
@@ -44,8 +45,8 @@ fn refuse(s: &[u8], n: usize, at: usize) -> Request
 // The rows of `check`, which start at `from`.
 fn check_part(s: &[u8], p: usize, from: usize, t: &[usize], buffer: &mut [usize]) -> Request
     requires { ⌜ length (now s) ≤ 65536 ⌝ }
-    requires { ⌜ (cellsFrom ≤ length (now t)) × (getD (now t) 2 0 ≤ 512) ⌝ }
-    requires { ⌜ 1536 ≤ length (now buffer) ⌝ }
+    requires { ⌜ (cellsFrom ≤ length (now t)) × (getD (now t) 2 0 ≤ mostNodes) ⌝ }
+    requires { ⌜ numbersOfOne ≤ length (now buffer) ⌝ }
     ensures { λ r. ⌜ answered r (now (t .entry)) (now (buffer .exit)) ≡ fromPart (now (s .entry)) (people (now (t .entry))) (held (now (t .entry))) (part.Check p from) ⌝ }
 {
     let nodes = t[Sheet::NODES_CELL];
@@ -72,7 +73,7 @@ fn play_part(s: &[u8], values: usize, from: usize, k: usize) -> Request
 fn after_sheet(s: &[u8], at: usize, t: &[usize], buffer: &mut [usize]) -> Request
     requires { ⌜ length (now s) ≤ 65536 ⌝ }
     requires { ⌜ (cellsFrom ≤ length (now t)) × Sized (now s) at (now t) ⌝ }
-    requires { ⌜ 1536 ≤ length (now buffer) ⌝ }
+    requires { ⌜ numbersOfOne ≤ length (now buffer) ⌝ }
     ensures { λ r. ⌜ answered r (now (t .entry)) (now (buffer .exit)) ≡ fromSheet (now (s .entry)) (accepted (people (now (t .entry))) at (held (now (t .entry)))) ⌝ }
 {
     let k = t[Sheet::PARTICIPANTS_CELL];
@@ -92,7 +93,7 @@ fn after_sheet(s: &[u8], at: usize, t: &[usize], buffer: &mut [usize]) -> Reques
 pub fn read(s: &[u8], t: &mut [usize], buffer: &mut [usize]) -> Request
     requires { ⌜ length (now s) ≤ 65536 ⌝ }
     requires { ⌜ Spacious (now s) (now t) ⌝ }
-    requires { ⌜ 1536 ≤ length (now buffer) ⌝ }
+    requires { ⌜ numbersOfOne ≤ length (now buffer) ⌝ }
     ensures { λ r. ⌜ answered r (now (t .exit)) (now (buffer .exit)) ≡ readRequest (now (s .entry)) ⌝ }
 {
     let g = sheet(s, t);

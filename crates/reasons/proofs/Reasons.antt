@@ -22,9 +22,9 @@ use Rattle.bitml.proofs.Causes.{cause-bar}
 use Rattle.tables.specs.Entries.{held, people}
 use Rattle.tables.specs.SheetOf.{defEntryAt, branchCount, branchNumber, branchOf, sheetIn}
 use Rattle.tables.proofs.SheetOf.{root-is, nodes-are, count-of, branch-of}
+use Rattle.buffer.specs.Buffer.{filled}
 use Rattle.reading.proofs.Formed.{well-formed}
 use Rattle.sheets.specs.Ready.{Ready}
-use Rattle.buffer.specs.Filled.{filled}
 use Rattle.exits.specs.Made.{answerOf, bufferOf}
 use Rattle.exits.specs.declared.Verdict.the-variants.{Liquid}
 use Rattle.exits.proofs.Told.{root-first, told-liquid}

@@ -29,12 +29,13 @@ ghost use Rattle.bitml.specs.Runs.{Exit};
 ghost use Rattle.bitml.specs.Rule as rule;
 ghost use Rattle.bitml.specs.Why.{stepsTo, cause, causes};
 ghost use Rattle.bitml.specs.Answers.{stepLine, branchLines, whyLines, explaining, answer};
-ghost use Rattle.tables.specs.Entries.{held, people};
+ghost use Rattle.tables.specs.Entries.{held, people, mostNodes};
 ghost use Rattle.tables.specs.SheetOf.{branchCount, sheetIn};
 ghost use Rattle.sheets.specs.Ready.{Ready, Indexed};
 ghost use Rattle.texts.specs.Text.{linesText};
 ghost use Rattle.texts.specs.Wrote.{Wrote};
 ghost use Rattle.replies.specs.Answer.{Gives, leastText};
+ghost use Rattle.buffer.specs.Buffer.{numbersOfOne};
 
 // The cause of an own branch: a contract in it lacks an exit.
 const CONTRACT: usize = 5;
@@ -77,11 +78,11 @@ fn put_causes(t: &[usize], p: usize, n: usize, text: &mut [u8], at: usize, x: &[
 // The lines `step`: the way from the start to a node that is reached.
 fn put_way(t: &[usize], target: usize, text: &mut [u8], at: usize, x: &[usize]) -> usize
     requires { ⌜ Ready (now t) ⌝ }
-    requires { ⌜ (target < length (held (now t) .nodes)) × (at + 80 * 512 ≤ length (now text)) ⌝ }
+    requires { ⌜ (target < length (held (now t) .nodes)) × (at + 80 * mostNodes ≤ length (now text)) ⌝ }
     requires { ⌜ Indexed (held (now t)) (now x) ⌝ }
     requires { ⌜ rule.reached (sheetIn (now t)) target ≡ true ⌝ }
     ensures { λ r. ⌜ Wrote (now (text .entry)) at (linesText (map stepLine (stepsTo (sheetIn (now (t .entry))) target))) (now (text .exit)) r ⌝ }
-    ensures { λ r. ⌜ r ≤ at + 80 * 512 ⌝ }
+    ensures { λ r. ⌜ r ≤ at + 80 * mostNodes ⌝ }
 {
     let mut dist = [0usize; Sheet::NODES];
     distances(t, target, &mut dist);
@@ -112,7 +113,7 @@ fn put_reason(t: &[usize], p: usize, n: usize, text: &mut [u8], x: &[usize]) -> 
 // rows.
 pub fn why_for(t: &[usize], p: usize, rows: &mut [usize], text: &mut [u8]) -> Reply
     requires { ⌜ Ready (now t) ⌝ }
-    requires { ⌜ (p < people (now t)) × (1536 ≤ length (now rows)) × (leastText ≤ length (now text)) ⌝ }
+    requires { ⌜ (p < people (now t)) × (numbersOfOne ≤ length (now rows)) × (leastText ≤ length (now text)) ⌝ }
     ensures { λ r. ⌜ Gives (answer (explaining (sheetIn (now (t .entry))) p)) (length (now (rows .entry))) (length (now (text .entry))) r (now (rows .exit)) (now (text .exit)) ⌝ }
 {
     let mut x = [0usize; INDEX];

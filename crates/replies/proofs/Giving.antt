@@ -6,7 +6,7 @@ use mathlib.Core.List.{List, []}
 use lib.ListN.{length, replicate}
 use Rattle.bitml.specs.Rows.{Row}
 use Rattle.bitml.specs.Answers.{Line, Answer, refused, printed}
-use Rattle.buffer.specs.Filled.{filled}
+use Rattle.buffer.specs.Buffer.{filled}
 use Rattle.texts.specs.Text.{linesText}
 use Rattle.texts.specs.Wrote.{Wrote}
 use Rattle.texts.proofs.Writing.{wrote-all}

@@ -4,7 +4,7 @@ use Prim.Native.Nat.{ℕ, _-_}
 use mathlib.Core.List.{List, [], _++_}
 use lib.ListN.{length, replicate}
 use Rattle.bitml.specs.Answers.{Answer, refused, printed}
-use Rattle.buffer.specs.Filled.{filled}
+use Rattle.buffer.specs.Buffer.{filled}
 use Rattle.texts.specs.Text.{linesText}
 use Rattle.replies.specs.declared.Reply.{Reply}
 

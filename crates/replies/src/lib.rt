@@ -1,20 +1,19 @@
 // The value that answers a request, what refuses one before it is read, and the buffers after a refusal.
+use buffer::PLACES;
 use buffer::clear as clear_numbers;
 use texts::clear;
 ghost use mathlib.Core.Path.{_≡_};
 ghost use Prim.Native.Nat.{_≤_};
 ghost use lib.ListN.{length};
-ghost use Rattle.bitml.specs.Answers.{refused};
+ghost use Rattle.bitml.specs.Answers.{refused, placesOfOne};
 ghost use Rattle.replies.specs.Answer.{Gives, leastText};
 ghost use Rattle.replies.specs.Before.{early};
 
-// The longest request, and the fewest rows that must be lent.
-const BYTES: usize = 65536;
+// The longest request.
+pub const BYTES: usize = 65536;
 
-const ROWS: usize = 512;
-
-// The numbers of their refusals.
-const TOO_LONG: usize = 1;
+// Refused: a request that is too long, a buffer that is too short.
+pub const TOO_LONG: usize = 1;
 
 pub const TOO_SHORT: usize = 7;
 
@@ -74,12 +73,12 @@ pub fn refuse(
 // What refuses a request before it is read: 0 for nothing.
 pub fn early(bytes: usize, rows: usize, text: usize) -> usize
     ensures { λ r. ⌜ r ≡ early bytes rows text ⌝ }
-    ensures { λ r. ⌜ (r ≡ 0 → (bytes ≤ 65536) × (512 ≤ rows) × (leastText ≤ text)) ⌝ }
+    ensures { λ r. ⌜ (r ≡ 0 → (bytes ≤ 65536) × (placesOfOne ≤ rows) × (leastText ≤ text)) ⌝ }
 {
     if BYTES < bytes {
         return TOO_LONG;
     }
-    if rows < ROWS {
+    if rows < PLACES {
         return TOO_SHORT;
     }
     if text < Reply::TEXT {

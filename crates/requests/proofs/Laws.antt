@@ -1,23 +1,22 @@
 -- Laws of the definitions: one value more, one row more.
-use Prim.Native.Nat.{ℕ, zero, suc, _+_, _-_, _*_, _<_, _≤_}
+use Prim.Native.Nat.{ℕ, zero, suc, _+_, _-_, _<_, _≤_}
 use mathlib.Core.List.{List, [], _∷_, _++_}
-use mathlib.Core.Path.{_≡_, refl, ap, sym, _∙_}
+use mathlib.Core.Path.{_≡_, refl}
 use native.Mathlib.Omega.{arith}
 use lib.Dec.{eqb}
-use lib.ListN.{length, set, drop}
-use lib.Seq.{drop-drop, drop-set-lt, sets}
+use lib.ListN.{length}
 use borrow.Author.Tests.{lt-ltb, le-ltb}
 use Rattle.fields.proofs.Laws.{number-end, word-end}
 use Rattle.fields.proofs.Ranges.{when-read-cases, cond-cases, never}
 use Rattle.fields.specs.Field.{spelled, whenRead, numberAt, wordAt}
 use Rattle.fields.specs.declared.Got.{Got}
 use Rattle.fields.specs.declared.Got.the-variants.{Value, Bad}
-use Rattle.tables.specs.Entries.{firstOf}
 use Rattle.requests.specs.Part.{mostValue, valueAt, pastOf, pastValueAt, pastValuesAt}
 use Rattle.bitml.specs.Rows.{Row}
-use Rattle.requests.specs.Rows.{mostRows, row, rowIn, rowsOf, pastRows, Rows, rowsWith, rowAt, noRoomAt, withLine, rowsFrom, RowsHeld}
+use Rattle.buffer.specs.Buffer.{row, rowsOf, pastRows}
+use Rattle.buffer.proofs.Buffer.{rows-length}
+use Rattle.requests.specs.Rows.{mostRows, Rows, rowsWith, rowAt, noRoomAt, withLine, rowsFrom, RowsHeld}
 use Rattle.requests.specs.declared.RowLine.{RowLine}
-use Rattle.tables.proofs.Laws.{run-3, sets-before, sets-at, firstOf-length, firstOf-more}
 use Rattle.requests.specs.declared.Commitment.the-variants as commitment
 use Rattle.requests.specs.declared.RowLine.the-variants as line
 
@@ -47,41 +46,6 @@ past-end s at v q =
     (λ b. when-read-cases (λ c. pastOf c ≡ Value v q → (at < q) × (q ≤ length s)) commitment.Bad (numberAt s at mostValue) commitment.Number (λ m p h. never m p v q h)
     λ u f i h. let j : f ≡ q = cc in let k = number-end s at mostValue u f i in (omega arith, omega arith))
 
--- ---- a buffer's rows
-
-module _ (u : List ℕ) (i n b k : ℕ) (fits : 3 * i + 3 ≤ length u) where
-  kept : (j : ℕ) → j < i → rowIn (sets u (3 * i) (n ∷ b ∷ k ∷ [])) j ≡ rowIn u j
-  kept j h =
-      rw (
-        sets-before (n ∷ b ∷ k ∷ []) u (3 * i) (3 * j) (omega arith),
-        sets-before (n ∷ b ∷ k ∷ []) u (3 * i) (3 * j + 1) (omega arith),
-        sets-before (n ∷ b ∷ k ∷ []) u (3 * i) (3 * j + 2) (omega arith),
-      )
-
-  put : rowIn (sets u (3 * i) (n ∷ b ∷ k ∷ [])) i ≡ row n b k
-  put =
-      let z : 3 * i + 0 ≡ 3 * i = omega arith in
-      let first = rw z at (sets-at (n ∷ b ∷ k ∷ []) u (3 * i) 0 (omega arith) fits) in
-      rw (first, sets-at (n ∷ b ∷ k ∷ []) u (3 * i) 1 (omega arith) fits, sets-at (n ∷ b ∷ k ∷ []) u (3 * i) 2 (omega arith) fits)
-
-  pub row-more : rowsOf (i + 1) (set (set (set u (3 * i) n) (3 * i + 1) b) (3 * i + 2) k) ≡ rowsOf i u ++ (row n b k ∷ [])
-  unfolding rowsOf
-  row-more = rw run-3 (firstOf-more (rowIn (sets u (3 * i) (n ∷ b ∷ k ∷ []))) (rowIn u) i (row n b k) kept put)
-
-pub row-rest : (u : List ℕ) (i n b k : ℕ) → pastRows (i + 1) (set (set (set u (3 * i) n) (3 * i + 1) b) (3 * i + 2) k) ≡ pastRows (i + 1) u
-unfolding pastRows
-row-rest u i n b k =
-    drop-set-lt (3 * (i + 1)) (set (set u (3 * i) n) (3 * i + 1) b) (3 * i + 2) k (omega arith)
-    ∙ drop-set-lt (3 * (i + 1)) (set u (3 * i) n) (3 * i + 1) b (omega arith)
-    ∙ drop-set-lt (3 * (i + 1)) u (3 * i) n (omega arith)
-
--- what is the same past i rows is the same past one more
-pub rest-more : (u v : List ℕ) (i : ℕ) → pastRows i v ≡ pastRows i u → pastRows (i + 1) v ≡ pastRows (i + 1) u
-unfolding pastRows
-rest-more u v i h =
-    let e : 3 * (i + 1) ≡ 3 * i + 3 = omega arith in
-    rw e (sym (drop-drop 3 (3 * i) v) ∙ ap (λ x. drop 3 x) h ∙ drop-drop 3 (3 * i) u)
-
 -- ---- the lines of rows
 
 module _ (s : List ℕ) (counts : ℕ → ℕ) (nodes : ℕ) (xs : List Row) (at : ℕ) where
@@ -103,18 +67,6 @@ module _ (s : List ℕ) (counts : ℕ → ℕ) (nodes : ℕ) (xs : List Row) (at
     pub rows-bad : (m p : ℕ) → g ≡ line.Bad m p → rowsWith xs (Bad m p) ≡ rowsFrom s counts nodes (mostRows - i) xs at
     unfolding rowsFrom withLine
     rows-bad m p h = let j : mostRows - i ≡ suc (mostRows - (i + 1)) = omega arith in rw (j, lt-ltb _ _ more, ← read, h)
-
-pub rows-none : (u : List ℕ) → rowsOf 0 u ≡ []
-unfolding rowsOf firstOf
-rows-none u = refl
-
-pub rows-next : (u : List ℕ) (i : ℕ) → rowsOf (i + 1) u ≡ rowsOf i u ++ (rowIn u i ∷ [])
-unfolding rowsOf firstOf
-rows-next u i = ap (λ k. rowsOf k u) (let z : i + 1 ≡ suc i = omega arith in z)
-
-pub rows-length : (n : ℕ) (u : List ℕ) → length (rowsOf n u) ≡ n
-unfolding rowsOf
-rows-length n u = firstOf-length (rowIn u) n
 
 -- what the buffer holds where the reading ends
 pub holds : (want : Rows) (r : Got) (u₀ u : List ℕ) (i : ℕ) → rowsWith (rowsOf i u) r ≡ want → pastRows i u ≡ pastRows i u₀ → RowsHeld want r u₀ u

@@ -9,12 +9,13 @@ use lib.Dec.{ltb, eqb}
 use lib.ListN.{length, getD, length-append, List·getD-append}
 use lib.Seq.{getD-at}
 use Rattle.fields.proofs.Ranges.{when-read-cases, cond-cases, never, below-end, between-end, line-end-next}
-use Rattle.fields.specs.Field.{spelled, whenRead, belowAt, betweenAt, firstAt, lineEndAt}
+use Rattle.fields.specs.Field.{spelled, belowAt, betweenAt, firstAt, lineEndAt}
 use Rattle.fields.specs.declared.Got.the-variants.{Value, Bad}
 use Rattle.requests.proofs.Laws.{past-end}
 use Rattle.requests.specs.Part.{participantAt, lastParticipantAt, pastValueAt, pastValuesAt, makeAt, makeAllAt, whyAt, checkAt, playAt, lastPartAt}
 use Rattle.bitml.specs.Rows.{Row}
-use Rattle.requests.specs.Rows.{mostRank, mostRows, row, RowFits, Rows, rowsWith, rowNumbersAt, rowAt, noRoomAt, withLine, rowsFrom, rowsAt}
+use Rattle.buffer.specs.Buffer.{row}
+use Rattle.requests.specs.Rows.{mostRank, mostRows, RowFits, Rows, rowsWith, rowNumbersAt, rowAt, noRoomAt, withLine, rowsFrom, rowsAt}
 use Rattle.requests.specs.declared.Part.{Part}
 use Rattle.requests.specs.declared.RowLine.{RowLine}
 use Rattle.requests.specs.declared.Part.the-variants as part

@@ -1,16 +1,17 @@
--- The rows of `check`, as they are read and as a buffer holds them.
-use Prim.Native.Nat.{ℕ, zero, suc, _+_, _*_, _<_, _≤_}
+-- The rows of `check`, as they are read.
+use Prim.Native.Nat.{ℕ, zero, suc, _<_, _≤_}
 use mathlib.Core.Bool.{cond}
 use mathlib.Core.List.{List, [], _∷_, _++_}
 use mathlib.Core.Path.{_≡_}
 use lib.Dec.{ltb, eqb}
-use lib.ListN.{length, getD, drop}
+use lib.ListN.{length}
 use Rattle.bitml.specs.Rows.{Row}
 use Rattle.fields.specs.Field.{spelled, whenRead, belowAt, betweenAt, firstAt, lineEndAt}
 use Rattle.fields.specs.declared.Got.{Got}
 use Rattle.fields.specs.declared.Got.the-variants.{Value, Bad}
+use Rattle.tables.specs.Entries.{nodeIn}
+use Rattle.buffer.specs.Buffer.{row, rowsOf, pastRows}
 use Rattle.requests.specs.declared.RowLine.{RowLine}
-use Rattle.tables.specs.Entries.{firstOf, nodeIn}
 use Rattle.requests.specs.declared.RowLine.the-variants as line
 
 abbrev pub mostRank : ℕ
@@ -18,22 +19,6 @@ mostRank = 65_535
 
 abbrev pub mostRows : ℕ
 mostRows = 512
-
--- "`row`,node,branch,rank"
-abbrev pub row : ℕ → ℕ → ℕ → Row
-row n b k = record { node = n; branch = b; rank = k }
-
--- ---- a buffer: row i stands in its cells 3 * i, 3 * i + 1 and 3 * i + 2
-
-abbrev pub rowIn : List ℕ → ℕ → Row
-rowIn u i = row (getD u (3 * i) 0) (getD u (3 * i + 1) 0) (getD u (3 * i + 2) 0)
-
-unfoldable pub rowsOf : ℕ → List ℕ → List Row
-rowsOf n u = firstOf (rowIn u) n
-
--- the cells past n rows
-unfoldable pub pastRows : ℕ → List ℕ → List ℕ
-pastRows n u = drop (3 * n) u
 
 -- ---- reading, for a sheet of so many nodes, of which each has its count of branches
 

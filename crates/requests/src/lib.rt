@@ -1,4 +1,5 @@
 // The last part of a request: `make`, `makeall`, `why`, `check` with its rows, `play` with its values.
+use buffer::put_row;
 use fields::Got;
 use reader::first_from;
 use reader::line_end_from;
@@ -8,12 +9,12 @@ use reader::number_up_to;
 use reader::word_from;
 use tables::Sheet;
 ghost use mathlib.Core.Path.{_≡_};
-ghost use mathlib.Core.List.{[], _∷_, _++_};
 ghost use Prim.Native.Nat.{_+_, _≤_, _<_};
 ghost use lib.ListN.{length};
+ghost use Rattle.tables.specs.Entries.{cellsFrom, mostNodes};
+ghost use Rattle.buffer.specs.Buffer.{numbersOfOne};
 ghost use Rattle.requests.specs.Part.{lastPartAt, makeAt, makeAllAt, whyAt, checkAt, playAt, participantAt, lastParticipantAt, valueAt, pastValueAt, pastValuesAt};
-ghost use Rattle.requests.specs.Rows.{countIn, rowAt, rowNumbersAt, noRoomAt, rowsOf, pastRows, row, rowsAt, RowsHeld};
-ghost use Rattle.tables.specs.Entries.{cellsFrom};
+ghost use Rattle.requests.specs.Rows.{countIn, rowAt, rowNumbersAt, noRoomAt, rowsAt, RowsHeld};
 
 const MAKE: usize = ((b'm' as usize * 256 + b'a' as usize) * 256 + b'k' as usize) * 256
     + b'e' as usize;
@@ -40,7 +41,7 @@ const VALUE: usize = 1000000000;
 
 const RANK: usize = 65535;
 
-pub const ROWS: usize = 512;
+const ROWS: usize = 512;
 
 // The last part's first line.
 pub enum Part {
@@ -241,16 +242,16 @@ pub fn last_part(s: &[u8], at: usize, people: usize, secrets: usize) -> Part
 // How many branches a node has.
 pub fn branch_count(t: &[usize], node: usize) -> usize
     requires { ⌜ cellsFrom ≤ length (now t) ⌝ }
-    requires { ⌜ node < 512 ⌝ }
+    requires { ⌜ node < mostNodes ⌝ }
     ensures { λ r. ⌜ r ≡ countIn (now (t .entry)) node ⌝ }
 {
-    t[Sheet::NODES_AT + 3 + 4 * node]
+    t[Sheet::NODES_AT + 3 + Sheet::NODE_WIDE * node]
 }
 
 // A line `row`, after its word.
 fn row_numbers(s: &[u8], at: usize, t: &[usize], nodes: usize) -> RowLine
     requires { ⌜ cellsFrom ≤ length (now t) ⌝ }
-    requires { ⌜ nodes ≤ 512 ⌝ }
+    requires { ⌜ nodes ≤ mostNodes ⌝ }
     ensures { λ r. ⌜ r ≡ rowNumbersAt (now (s .entry)) (countIn (now (t .entry))) nodes at ⌝ }
 {
     let g = number_below(s, at, nodes);
@@ -282,7 +283,7 @@ fn row_numbers(s: &[u8], at: usize, t: &[usize], nodes: usize) -> RowLine
 // A line `row`, which starts at `at`.
 fn row_line(s: &[u8], at: usize, t: &[usize], nodes: usize) -> RowLine
     requires { ⌜ cellsFrom ≤ length (now t) ⌝ }
-    requires { ⌜ nodes ≤ 512 ⌝ }
+    requires { ⌜ nodes ≤ mostNodes ⌝ }
     ensures { λ r. ⌜ r ≡ rowAt (now (s .entry)) (countIn (now (t .entry))) nodes at ⌝ }
 {
     let g = first_from(s, at);
@@ -311,24 +312,11 @@ fn no_room(s: &[u8], at: usize) -> Got
     Got::Bad(3, at)
 }
 
-// Row i of the buffer, after those before it.
-fn put_row(buffer: &mut [usize], i: usize, node: usize, branch: usize, rank: usize)
-    requires { ⌜ 1536 ≤ length (now buffer) ⌝ }
-    requires { ⌜ i < 512 ⌝ }
-    ensures { λ _. ⌜ rowsOf (i + 1) (now (buffer .exit)) ≡ rowsOf i (now (buffer .entry)) ++ (row node branch rank ∷ []) ⌝ }
-    ensures { λ _. ⌜ pastRows (i + 1) (now (buffer .exit)) ≡ pastRows (i + 1) (now (buffer .entry)) ⌝ }
-{
-    let j = 3 * i;
-    buffer[j] = node;
-    buffer[j + 1] = branch;
-    buffer[j + 2] = rank;
-}
-
 // The rows of `check`, whose lines start at `from`: how many, and the request's end. The buffer holds them, and past them what it held.
 pub fn rows(s: &[u8], from: usize, t: &[usize], nodes: usize, buffer: &mut [usize]) -> Got
     requires { ⌜ cellsFrom ≤ length (now t) ⌝ }
-    requires { ⌜ nodes ≤ 512 ⌝ }
-    requires { ⌜ 1536 ≤ length (now buffer) ⌝ }
+    requires { ⌜ nodes ≤ mostNodes ⌝ }
+    requires { ⌜ numbersOfOne ≤ length (now buffer) ⌝ }
     ensures { λ r. ⌜ RowsHeld (rowsAt (now (s .entry)) (countIn (now (t .entry))) nodes from) r (now (buffer .entry)) (now (buffer .exit)) ⌝ }
 {
     let mut at = from;

@@ -16,9 +16,9 @@ use Rattle.bitml.proofs.Lists.{and-true, and-end, map-cong}
 use Rattle.tables.specs.Entries.{Entries, held, people}
 use Rattle.tables.specs.SheetOf.{branchEntryAt, defEntryAt, branchNumbers, branchNumber, branchCount, partNumbers, actionOf, branchOf, sheetOf, sheetIn}
 use Rattle.tables.proofs.SheetOf.{root-is, branches-are, count-of, branch-of, branch-small, next-renewal}
+use Rattle.buffer.specs.Buffer.{rowIn, rowsOf}
 use Rattle.reading.specs.Promises.{Promises}
 use Rattle.reading.proofs.Formed.{parts-are-nodes}
-use Rattle.requests.specs.Rows.{rowIn, rowsOf}
 use Rattle.sheets.specs.Ready.{Ready}
 use Rattle.order.specs.Nodes.{Known, hasBy, orderFault}
 use Rattle.order.proofs.Ranks.{drop-one, rows-from, rows-end, known-has}

@@ -6,7 +6,7 @@ use mathlib.Core.List.{List}
 use Rattle.tables.specs.Entries.{held}
 use Rattle.tables.specs.SheetOf.{branchCount}
 use Rattle.tables.proofs.Held.{node-held}
-use Rattle.requests.specs.Rows.{rowIn}
+use Rattle.buffer.specs.Buffer.{rowIn}
 use Rattle.sheets.specs.Ready.{Ready}
 use Rattle.order.specs.Nodes.{RowsSmall}
 use Rattle.rows.specs.Given.{RowsFit}

@@ -10,8 +10,8 @@ use Rattle.bitml.specs.Rows as bitml
 use Rattle.bitml.specs.Rows.{Row, rankOf}
 use Rattle.tables.specs.Entries.{Entries, held}
 use Rattle.tables.specs.SheetOf.{sheetOf, branchOf, branchNumber, branchNumbers, partNumbers}
-use Rattle.requests.specs.Rows.{RowFits, countIn, rowIn, mostRows}
-use Rattle.buffer.specs.Filled.{filled}
+use Rattle.buffer.specs.Buffer.{rowWide, rowIn, filled}
+use Rattle.requests.specs.Rows.{RowFits, countIn, mostRows}
 use Rattle.order.specs.Nodes.{hasBy}
 use Rattle.rows.specs.declared.Checked.{Checked}
 use Rattle.rows.specs.declared.Checked.the-variants.{Liquid, Refused}
@@ -19,7 +19,7 @@ use Rattle.rows.specs.declared.Checked.the-variants.{Liquid, Refused}
 -- "up to 512 lines `row`,node,branch,rank (1 to 65,535)": what the reader promises of n rows
 pub record RowsFit (t u : List ℕ) (n : ℕ) : Type 0 where
   pub few : n ≤ mostRows
-  pub long : 3 * n ≤ length u
+  pub long : rowWide * n ≤ length u
   pub each : (i : ℕ) → i < n → RowFits (countIn t) (length (held t .nodes)) (rowIn u i)
 
 -- ---- by the array A of ranks
@@ -45,9 +45,9 @@ faultBy K E p A r =
 unfoldable pub answerOf : List Row → bitml.Fault → Checked
 answerOf R f = cond (eqb (f .number) 0) (Liquid (length R) (rankOf R 0)) (Refused (f .number) (f .place))
 
--- How many numbers of the buffer stay
+-- How many places of the buffer stay
 unfoldable pub keptOf : Checked → ℕ → ℕ
-keptOf (Liquid c k) n = 3 * n
+keptOf (Liquid c k) n = n
 keptOf (Refused m i) n = 0
 
 -- "The row buffer holds the rows (for `check` as given) and is zero past them; it is wholly zero after .. a refused request": a buffer

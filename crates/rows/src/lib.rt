@@ -1,5 +1,8 @@
 // Rows that anyone gives are accepted, or the first fault is found.
-use buffer::clear;
+use buffer::clear_past;
+use buffer::row_branch;
+use buffer::row_node;
+use buffer::row_rank;
 use order::Fault;
 use order::index;
 use owning::own;
@@ -21,7 +24,8 @@ ghost use Rattle.bitml.specs.Rows.{faulty};
 ghost use Rattle.bitml.specs.Rows as bitml;
 ghost use Rattle.tables.specs.Entries.{held, people};
 ghost use Rattle.tables.specs.SheetOf.{branchNumbers, branchCount, partNumbers, sheetIn};
-ghost use Rattle.requests.specs.Rows.{mostRank, mostRows, row, rowsOf};
+ghost use Rattle.buffer.specs.Buffer.{row, rowsOf};
+ghost use Rattle.requests.specs.Rows.{mostRank};
 ghost use Rattle.sheets.specs.Ready.{Ready, Indexed};
 ghost use Rattle.order.specs.Nodes.{Known, hasBy, asFault};
 ghost use Rattle.rows.specs.Given.{RowsFit, nextBy, rankSum, faultBy, answerOf, keptOf, bufferOf};
@@ -159,9 +163,9 @@ fn faults(
 {
     let mut i = 0;
     while i < n {
-        let node = rows[3 * i];
-        let branch = rows[3 * i + 1];
-        let rank = rows[3 * i + 2];
+        let node = row_node(rows, i);
+        let branch = row_branch(rows, i);
+        let rank = row_rank(rows, i);
         let number = wrong(t, p, ranks, node, branch, rank, x);
         if number != 0 {
             return Fault {
@@ -224,13 +228,12 @@ pub fn check(t: &[usize], p: usize, rows: &[usize], n: usize, x: &[usize]) -> Ch
     Checked::Liquid(n, ranks[0])
 }
 
-// How many numbers of the buffer stay: those of the n rows, where they are accepted.
+// How many places of the buffer stay: those of the n rows, where they are accepted.
 fn kept(r: Checked, n: usize) -> usize
-    requires { ⌜ n ≤ mostRows ⌝ }
     ensures { λ k. ⌜ k ≡ keptOf r n ⌝ }
 {
     match r {
-        Checked::Liquid(_, _) => 3 * n,
+        Checked::Liquid(_, _) => n,
         Checked::Refused(_, _) => 0,
     }
 }
@@ -245,7 +248,7 @@ pub fn check_rows(t: &[usize], p: usize, rows: &mut [usize], n: usize, x: &[usiz
     ensures { λ r. ⌜ now (rows .exit) ≡ bufferOf (length (now (rows .entry))) (rowsOf n (now (rows .entry))) (bitml.check (sheetIn (now (t .entry))) p (rowsOf n (now (rows .entry)))) ⌝ }
 {
     let r = check(t, p, rows, n, x);
-    let from = kept(r, n);
-    clear(&mut rows[from..]);
+    let k = kept(r, n);
+    clear_past(rows, k);
     r
 }

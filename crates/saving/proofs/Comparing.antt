@@ -9,8 +9,8 @@ use lib.Dec.{eqb}
 use borrow.Author.Tests.{eqb-true, eq-eqb, ne-eqb}
 use Rattle.bitml.specs.Lists.{_&_}
 use Rattle.bitml.proofs.Lists.{is-false, and-l, and-r, and-i, and-false, and-true, and-end, and-assoc}
-use Rattle.tables.specs.Entries.{Entries, firstOf, nodeIn, branchIn, defIn, listedIn, cellIn, held, people}
-use Rattle.tables.proofs.Laws.{firstOf-length}
+use Rattle.tables.specs.Entries.{Entries, firstOf, nodeIn, branchIn, defIn, listedIn, cellIn, held, people, nodeWide, branchWide, defWide, nodesFrom, branchesFrom, defsFrom, listedFrom, cellsFrom}
+use Rattle.tables.proofs.Runs.{firstOf-length}
 use Rattle.writing.specs.Writable.{sameAll, sameNode, sameBranch, sameDef, sameEntries}
 use Rattle.writing.proofs.Same.{same-is}
 use Rattle.saving.specs.Comparing.{sameCells, sameSheet}
@@ -76,24 +76,24 @@ module _ (u t : List ℕ) where
       all-more same (firstOf (f u) n) (firstOf (f t) n) (f u n) (f t n) (firstOf-length (f u) n ∙ sym (firstOf-length (f t) n))
       ∙ ap₂ _&_ (section-same same f from k h n) (h n) ∙ sym (cells-join (k * n) k from (from + k * n) refl) ∙ ap (λ m. sameCells from m u t) z
 
-  node-cells : (i : ℕ) → sameNode (nodeIn u i) (nodeIn t i) ≡ sameCells (8 + 4 * i) 4 u t
+  node-cells : (i : ℕ) → sameNode (nodeIn u i) (nodeIn t i) ≡ sameCells (nodesFrom + nodeWide * i) 4 u t
   unfolding sameNode
   node-cells i =
-      sym (cell-then (8 + 4 * i) (9 + 4 * i) 3 _ (omega arith) (cell-then (9 + 4 * i) (10 + 4 * i) 2 _ (omega arith)
-      (cell-then (10 + 4 * i) (11 + 4 * i) 1 _ (omega arith) (cell-last (11 + 4 * i)))))
+      sym (cell-then (nodesFrom + nodeWide * i) (nodesFrom + 1 + nodeWide * i) 3 _ (omega arith) (cell-then (nodesFrom + 1 + nodeWide * i) (nodesFrom + 2 + nodeWide * i) 2 _ (omega arith)
+      (cell-then (nodesFrom + 2 + nodeWide * i) (nodesFrom + 3 + nodeWide * i) 1 _ (omega arith) (cell-last (nodesFrom + 3 + nodeWide * i)))))
 
-  branch-cells : (i : ℕ) → sameBranch (branchIn u i) (branchIn t i) ≡ sameCells (2056 + 8 * i) 8 u t
+  branch-cells : (i : ℕ) → sameBranch (branchIn u i) (branchIn t i) ≡ sameCells (branchesFrom + branchWide * i) 8 u t
   unfolding sameBranch
   branch-cells i =
-      sym (cell-then (2056 + 8 * i) (2057 + 8 * i) 7 _ (omega arith) (cell-then (2057 + 8 * i) (2058 + 8 * i) 6 _ (omega arith)
-      (cell-then (2058 + 8 * i) (2059 + 8 * i) 5 _ (omega arith) (cell-then (2059 + 8 * i) (2060 + 8 * i) 4 _ (omega arith)
-      (cell-then (2060 + 8 * i) (2061 + 8 * i) 3 _ (omega arith) (cell-then (2061 + 8 * i) (2062 + 8 * i) 2 _ (omega arith)
-      (cell-then (2062 + 8 * i) (2063 + 8 * i) 1 _ (omega arith) (cell-last (2063 + 8 * i)))))))))
+      sym (cell-then (branchesFrom + branchWide * i) (branchesFrom + 1 + branchWide * i) 7 _ (omega arith) (cell-then (branchesFrom + 1 + branchWide * i) (branchesFrom + 2 + branchWide * i) 6 _ (omega arith)
+      (cell-then (branchesFrom + 2 + branchWide * i) (branchesFrom + 3 + branchWide * i) 5 _ (omega arith) (cell-then (branchesFrom + 3 + branchWide * i) (branchesFrom + 4 + branchWide * i) 4 _ (omega arith)
+      (cell-then (branchesFrom + 4 + branchWide * i) (branchesFrom + 5 + branchWide * i) 3 _ (omega arith) (cell-then (branchesFrom + 5 + branchWide * i) (branchesFrom + 6 + branchWide * i) 2 _ (omega arith)
+      (cell-then (branchesFrom + 6 + branchWide * i) (branchesFrom + 7 + branchWide * i) 1 _ (omega arith) (cell-last (branchesFrom + 7 + branchWide * i)))))))))
 
-  def-cells : (i : ℕ) → sameDef (defIn u i) (defIn t i) ≡ sameCells (10248 + 3 * i) 3 u t
+  def-cells : (i : ℕ) → sameDef (defIn u i) (defIn t i) ≡ sameCells (defsFrom + defWide * i) 3 u t
   unfolding sameDef
   def-cells i =
-      sym (cell-then (10248 + 3 * i) (10249 + 3 * i) 2 _ (omega arith) (cell-then (10249 + 3 * i) (10250 + 3 * i) 1 _ (omega arith) (cell-last (10250 + 3 * i))))
+      sym (cell-then (defsFrom + defWide * i) (defsFrom + 1 + defWide * i) 2 _ (omega arith) (cell-then (defsFrom + 1 + defWide * i) (defsFrom + 2 + defWide * i) 1 _ (omega arith) (cell-last (defsFrom + 2 + defWide * i))))
 
   -- a section of single numbers
   numbers-same : (from n : ℕ) → sameAll eqb (firstOf (λ i. getD u (from + i) 0) n) (firstOf (λ i. getD t (from + i) 0) n) ≡ sameCells from n u t
@@ -156,15 +156,19 @@ module _ (u t : List ℕ) where
   pub header-no : sameCells 0 6 u t ≡ false → sameSheet u t ≡ false
   header-no h = is-false (sameSheet u t) λ e. false≢true (sym h ∙ counts-header (same-counts e))
 
+  -- a table with all the cells that it counts has those that the other counts
+  pub cells-inside : sameCells 0 6 u t ≡ true → cellsFrom + getD u 5 0 ≤ length u → cellsFrom + getD t 5 0 ≤ length u
+  cells-inside h l = omega (arith, l, header-counts h .cells)
+
   pub sections-same : sameCells 0 6 u t ≡ true
-      → sameSheet u t ≡ (sameCells 8 (4 * getD t 2 0) u t & sameCells 2056 (8 * getD t 3 0) u t & sameCells 10248 (3 * getD t 1 0) u t
-      & sameCells 10344 (getD t 4 0) u t & sameCells 19304 (getD t 5 0) u t)
+      → sameSheet u t ≡ (sameCells nodesFrom (nodeWide * getD t 2 0) u t & sameCells branchesFrom (branchWide * getD t 3 0) u t & sameCells defsFrom (defWide * getD t 1 0) u t
+      & sameCells listedFrom (getD t 4 0) u t & sameCells cellsFrom (getD t 5 0) u t)
   unfolding sameSheet sameEntries held
   sections-same h =
       let c = header-counts h in
       and-true _ _ (eq-eqb _ _ (c .people))
-      ∙ ap₂ _&_ (ap (λ n. sameAll sameNode (firstOf (nodeIn u) n) (firstOf (nodeIn t) (getD t 2 0))) (c .nodes) ∙ section-same sameNode nodeIn 8 4 node-cells (getD t 2 0))
-      (ap₂ _&_ (ap (λ n. sameAll sameBranch (firstOf (branchIn u) n) (firstOf (branchIn t) (getD t 3 0))) (c .branches) ∙ section-same sameBranch branchIn 2056 8 branch-cells (getD t 3 0))
-      (ap₂ _&_ (ap (λ n. sameAll sameDef (firstOf (defIn u) n) (firstOf (defIn t) (getD t 1 0))) (c .defs) ∙ section-same sameDef defIn 10248 3 def-cells (getD t 1 0))
-      (ap₂ _&_ (ap (λ n. sameAll eqb (firstOf (listedIn u) n) (firstOf (listedIn t) (getD t 4 0))) (c .listed) ∙ numbers-same 10344 (getD t 4 0))
-      (ap (λ n. sameAll eqb (firstOf (cellIn u) n) (firstOf (cellIn t) (getD t 5 0))) (c .cells) ∙ numbers-same 19304 (getD t 5 0)))))
+      ∙ ap₂ _&_ (ap (λ n. sameAll sameNode (firstOf (nodeIn u) n) (firstOf (nodeIn t) (getD t 2 0))) (c .nodes) ∙ section-same sameNode nodeIn nodesFrom nodeWide node-cells (getD t 2 0))
+      (ap₂ _&_ (ap (λ n. sameAll sameBranch (firstOf (branchIn u) n) (firstOf (branchIn t) (getD t 3 0))) (c .branches) ∙ section-same sameBranch branchIn branchesFrom branchWide branch-cells (getD t 3 0))
+      (ap₂ _&_ (ap (λ n. sameAll sameDef (firstOf (defIn u) n) (firstOf (defIn t) (getD t 1 0))) (c .defs) ∙ section-same sameDef defIn defsFrom defWide def-cells (getD t 1 0))
+      (ap₂ _&_ (ap (λ n. sameAll eqb (firstOf (listedIn u) n) (firstOf (listedIn t) (getD t 4 0))) (c .listed) ∙ numbers-same listedFrom (getD t 4 0))
+      (ap (λ n. sameAll eqb (firstOf (cellIn u) n) (firstOf (cellIn t) (getD t 5 0))) (c .cells) ∙ numbers-same cellsFrom (getD t 5 0)))))

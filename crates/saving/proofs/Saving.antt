@@ -1,20 +1,22 @@
 -- How the reply of writing comes from what its steps give. Assumes nothing.
-use Prim.Native.Nat.{ℕ, _≤_, _<_}
+use Prim.Native.Nat.{ℕ, _+_, _≤_, _<_}
 use mathlib.Core.Path.{_≡_, refl, sym, ap, ap₂, _∙_}
 use mathlib.Core.Bool.{Bool, true, false}
 use mathlib.Core.Option.{some}
 use mathlib.Core.List.{List, _++_}
 use native.Mathlib.Omega.{arith}
-use lib.ListN.{length, drop, take-append-drop}
+use lib.ListN.{length, getD, drop, take-append-drop}
 use lib.Dec.{eqb, leb}
 use borrow.Author.Tests.{eq-eqb, ne-eqb, leb-true, leb-false, le-leb, lt-leb}
 use Rattle.bitml.specs.Lists.{_&_}
 use Rattle.bitml.proofs.Lists.{and-false, and-true, and-no}
 use Rattle.fields.specs.declared.Got.{Got}
 use Rattle.fields.specs.declared.Got.the-variants.{Value, Bad}
-use Rattle.tables.specs.Entries.{Entries, held, people, tableLong, Within}
+use Rattle.tables.specs.Entries.{Entries, held, people, cellIn, cellsFrom, tableLong, Spacious, Within}
+use Rattle.tables.proofs.Runs.{firstOf-length}
 use Rattle.lines.specs.Sheet.{readSheet, answered, whenAccepted}
 use Rattle.reading.proofs.Sizes.{sizes-within}
+use Rattle.ranges.proofs.Reading.{sheet-paid}
 use Rattle.texts.specs.Text.{line}
 use Rattle.texts.specs.Wrote.{Wrote}
 use Rattle.replies.specs.declared.Reply.{Reply}
@@ -72,6 +74,13 @@ module _ (K : ℕ) (E : Entries) (m : ℕ) (e : m ≡ length (short (sheetText K
 
 -- u is the table after reading s
 module _ (s u t : List ℕ) (g : Got) (h : (answered g u ≡ readSheet s) × whenAccepted s g u) where
+  -- the table has all the cells that it counts, since each took two bytes
+  pub back-cells : (v at : ℕ) → g ≡ Value v at → Spacious s u → cellsFrom + getD u 5 0 ≤ length u
+  unfolding answered held
+  back-cells v at e room =
+      let p = sheet-paid s (people u) at (held u) (sym (h .0) ∙ ap (λ x. answered x u) e) in
+      omega (arith, room, p, firstOf-length (cellIn u) (getD u 5 0))
+
   -- something stands behind the sheet
   pub back-behind : (v at : ℕ) → g ≡ Value v at → (at ≡ length s → ⊥) → readAs (length s) (people t) (held t) (readSheet s) ≡ false
   unfolding answered readAs

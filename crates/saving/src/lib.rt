@@ -11,8 +11,8 @@ use writer::put_sheet;
 ghost use mathlib.Core.Path.{_≡_};
 ghost use mathlib.Core.Bool.{true, false};
 ghost use Prim.Native.Nat.{_+_, _≤_};
-ghost use lib.ListN.{length};
-ghost use Rattle.tables.specs.Entries.{held, people, tableLong, Within};
+ghost use lib.ListN.{length, getD};
+ghost use Rattle.tables.specs.Entries.{held, people, cellsFrom, tableLong, Spacious, Within};
 ghost use Rattle.lines.specs.Sheet.{readSheet};
 ghost use Rattle.writing.specs.Writable.{readAs};
 ghost use Rattle.saving.specs.Comparing.{sameCells, sameSheet};
@@ -64,22 +64,32 @@ fn same_cells(u: &[usize], t: &[usize], from: usize, n: usize) -> bool
     true
 }
 
-// Whether both tables hold the same sheet.
+// Whether both tables hold the same sheet. The first may end with the last cell that it counts: unequal counts are found before that.
 fn same_sheet(u: &[usize], t: &[usize]) -> bool
-    requires { ⌜ tableLong ≤ length (now u) ⌝ }
+    requires { ⌜ cellsFrom + getD (now u) 5 0 ≤ length (now u) ⌝ }
     requires { ⌜ (tableLong ≤ length (now t)) × Within (now t) ⌝ }
     ensures { λ r. ⌜ r ≡ sameSheet (now (u .entry)) (now (t .entry)) ⌝ }
 {
     if !same_cells(u, t, 0, HEADER) {
         return false;
     }
-    if !same_cells(u, t, Sheet::NODES_AT, 4 * t[Sheet::NODES_CELL]) {
+    if !same_cells(
+        u,
+        t,
+        Sheet::NODES_AT,
+        Sheet::NODE_WIDE * t[Sheet::NODES_CELL],
+    ) {
         return false;
     }
-    if !same_cells(u, t, Sheet::BRANCHES_AT, 8 * t[Sheet::BRANCHES_CELL]) {
+    if !same_cells(
+        u,
+        t,
+        Sheet::BRANCHES_AT,
+        Sheet::BRANCH_WIDE * t[Sheet::BRANCHES_CELL],
+    ) {
         return false;
     }
-    if !same_cells(u, t, Sheet::DEFS_AT, 3 * t[Sheet::DEFS_CELL]) {
+    if !same_cells(u, t, Sheet::DEFS_AT, Sheet::DEF_WIDE * t[Sheet::DEFS_CELL]) {
         return false;
     }
     if !same_cells(u, t, Sheet::LISTED_AT, t[Sheet::LISTED_CELL]) {
@@ -88,23 +98,66 @@ fn same_sheet(u: &[usize], t: &[usize]) -> bool
     same_cells(u, t, Sheet::CELLS_AT, t[Sheet::CELLS_CELL])
 }
 
-// Whether the text reads to the sheet that the table holds, and nothing stands behind it.
-fn reads_back(s: &[u8], t: &[usize]) -> bool
-    requires { ⌜ length (now s) ≤ 65536 ⌝ }
+// Whether the text reads to the sheet that the table t holds, and nothing stands behind it; u is a table that serves for reading it.
+fn reads_back_in(s: &[u8], u: &mut [usize], t: &[usize]) -> bool
+    requires { ⌜ (length (now s) ≤ 65536) × Spacious (now s) (now u) ⌝ }
     requires { ⌜ (tableLong ≤ length (now t)) × Within (now t) ⌝ }
     ensures { λ r. ⌜ r ≡ readAs (length (now (s .entry))) (people (now (t .entry))) (held (now (t .entry))) (readSheet (now (s .entry))) ⌝ }
 {
-    let mut u = [0usize; Sheet::TABLE];
-    let g = sheet(s, &mut u);
+    let g = sheet(s, u);
     match g {
         Got::Value(_, at) => {
             if at != s.len() {
                 return false;
             }
-            same_sheet(&u, t)
+            same_sheet(u, t)
         }
         Got::Bad(_, _) => false,
     }
+}
+
+// The same with a table of its own: for a short text, for one of a middle length, for any. Each array is in a function of its own: so they
+// have the same place on the stack.
+fn reads_back_short(s: &[u8], t: &[usize]) -> bool
+    requires { ⌜ length (now s) ≤ 2048 ⌝ }
+    requires { ⌜ (tableLong ≤ length (now t)) × Within (now t) ⌝ }
+    ensures { λ r. ⌜ r ≡ readAs (length (now (s .entry))) (people (now (t .entry))) (held (now (t .entry))) (readSheet (now (s .entry))) ⌝ }
+{
+    let mut u = [0usize; Sheet::SHORT_TABLE];
+    reads_back_in(s, &mut u, t)
+}
+
+fn reads_back_middle(s: &[u8], t: &[usize]) -> bool
+    requires { ⌜ length (now s) ≤ 8192 ⌝ }
+    requires { ⌜ (tableLong ≤ length (now t)) × Within (now t) ⌝ }
+    ensures { λ r. ⌜ r ≡ readAs (length (now (s .entry))) (people (now (t .entry))) (held (now (t .entry))) (readSheet (now (s .entry))) ⌝ }
+{
+    let mut u = [0usize; Sheet::MIDDLE_TABLE];
+    reads_back_in(s, &mut u, t)
+}
+
+fn reads_back_long(s: &[u8], t: &[usize]) -> bool
+    requires { ⌜ length (now s) ≤ 65536 ⌝ }
+    requires { ⌜ (tableLong ≤ length (now t)) × Within (now t) ⌝ }
+    ensures { λ r. ⌜ r ≡ readAs (length (now (s .entry))) (people (now (t .entry))) (held (now (t .entry))) (readSheet (now (s .entry))) ⌝ }
+{
+    let mut u = [0usize; Sheet::TABLE];
+    reads_back_in(s, &mut u, t)
+}
+
+// The same with a table that is shorter for a shorter text.
+fn reads_back(s: &[u8], t: &[usize]) -> bool
+    requires { ⌜ length (now s) ≤ 65536 ⌝ }
+    requires { ⌜ (tableLong ≤ length (now t)) × Within (now t) ⌝ }
+    ensures { λ r. ⌜ r ≡ readAs (length (now (s .entry))) (people (now (t .entry))) (held (now (t .entry))) (readSheet (now (s .entry))) ⌝ }
+{
+    if s.len() <= Sheet::SHORT {
+        return reads_back_short(s, t);
+    }
+    if s.len() <= Sheet::MIDDLE {
+        return reads_back_middle(s, t);
+    }
+    reads_back_long(s, t)
 }
 
 // The sheet that the table holds, written as text at the start of the buffer; the bytes behind it stay.

@@ -13,55 +13,55 @@ use Rattle.bitml.proofs.Lists.{keep-all, keep-imp, up-mem, mem-keep, mem-up}
 use Rattle.bucket.specs.Bucket.{keyAt, Keys, Buckets, bucketOf}
 use Rattle.bucket.proofs.Laws.{buckets-frame}
 use Rattle.bucket.proofs.Find.{bucket-rise, bucket-size, bucket-behind, bucket-room}
-use Rattle.tables.specs.Entries.{Entries, held, people}
+use Rattle.tables.specs.Entries.{Entries, held, people, nodeWide, branchWide, nodesFrom, branchesFrom, mostNodes, mostBranches}
 use Rattle.tables.specs.SheetOf.{nodeEntryAt, branchEntryAt, branchNumbers, branchCount, branchNumber, partNumbers, partCount, partNumber}
 use Rattle.tables.proofs.SheetOf.{all-in}
 use Rattle.tables.proofs.Held.{node-held, branch-held}
 use Rattle.reading.proofs.Formed.{place-of, parent-small, argument-small}
-use Rattle.sheets.specs.Ready.{Ready, Indexed, namers, Named}
+use Rattle.sheets.specs.Ready.{Ready, Indexed, namers, Named, branchesBy, partsFrom, partsBy, namersLong}
 
 module _ (E : Entries) (x : List ℕ) (w : Indexed E x) where
-  pub branch-at : (n i : ℕ) → n < 512 → i < branchCount E n → branchNumber E n i ≡ getD x (513 + getD x n 0 + i) 0
+  pub branch-at : (n i : ℕ) → n < mostNodes → i < branchCount E n → branchNumber E n i ≡ getD x (branchesBy + getD x n 0 + i) 0
   unfolding branchCount branchNumber branchNumbers bucketOf
-  branch-at n i h l = bucket-behind _ _ _ _ x 513 (w .branches) n i h l
+  branch-at n i h l = bucket-behind _ _ _ _ x branchesBy (w .branches) n i h l
 
-  pub branch-room : (n i : ℕ) → n < 512 → i < branchCount E n → getD x n 0 + i < length (E .branches)
+  pub branch-room : (n i : ℕ) → n < mostNodes → i < branchCount E n → getD x n 0 + i < length (E .branches)
   unfolding branchCount branchNumbers bucketOf
   branch-room n i h l = bucket-room _ _ _ _ _ (w .branches) n i h l
 
-  part-start : (b : ℕ) → getD (drop 1537 x) b 0 ≡ getD x (1537 + b) 0
-  part-start b = getD-drop 1537 x b 0
+  part-start : (b : ℕ) → getD (drop partsFrom x) b 0 ≡ getD x (partsFrom + b) 0
+  part-start b = getD-drop partsFrom x b 0
 
-  pub parts-at : (b : ℕ) → b < 1025 → partCount E b ≡ getD x (1537 + (b + 1)) 0 - getD x (1537 + b) 0
+  pub parts-at : (b : ℕ) → b < mostBranches + 1 → partCount E b ≡ getD x (partsFrom + (b + 1)) 0 - getD x (partsFrom + b) 0
   unfolding partCount partNumbers bucketOf
   parts-at b h = bucket-size _ _ _ _ _ (w .parts) b h ∙ ap₂ (λ p q. p - q) (part-start (b + 1)) (part-start b)
 
-  pub parts-rise : (b : ℕ) → b < 1025 → getD x (1537 + b) 0 ≤ getD x (1537 + (b + 1)) 0
+  pub parts-rise : (b : ℕ) → b < mostBranches + 1 → getD x (partsFrom + b) 0 ≤ getD x (partsFrom + (b + 1)) 0
   parts-rise b h = omega (arith, part-start b, part-start (b + 1), bucket-rise _ _ _ _ _ (w .parts) b h)
 
-  pub part-at : (b i : ℕ) → b < 1025 → i < partCount E b → partNumber E b i ≡ getD x (2563 + getD x (1537 + b) 0 + i) 0
+  pub part-at : (b i : ℕ) → b < mostBranches + 1 → i < partCount E b → partNumber E b i ≡ getD x (partsBy + getD x (partsFrom + b) 0 + i) 0
   unfolding partCount partNumber partNumbers bucketOf
-  part-at b i h l = bucket-behind _ _ _ _ x 2563 (w .parts) b i h l ∙ ap (λ k. getD x (2563 + k + i) 0) (part-start b)
+  part-at b i h l = bucket-behind _ _ _ _ x partsBy (w .parts) b i h l ∙ ap (λ k. getD x (partsBy + k + i) 0) (part-start b)
 
-  pub part-room : (b i : ℕ) → b < 1025 → i < partCount E b → getD x (1537 + b) 0 + i < length (E .nodes)
+  pub part-room : (b i : ℕ) → b < mostBranches + 1 → i < partCount E b → getD x (partsFrom + b) 0 + i < length (E .nodes)
   unfolding partCount partNumbers bucketOf
   part-room b i h l = omega (arith, part-start b, bucket-room _ _ _ _ _ (w .parts) b i h l)
 
 -- ---- by argument
 
 module _ (E : Entries) (y : List ℕ) (w : Named E y) where
-  pub namers-at : (a : ℕ) → a < 512 → length (namers E a) ≡ getD y (a + 1) 0 - getD y a 0
+  pub namers-at : (a : ℕ) → a < mostNodes → length (namers E a) ≡ getD y (a + 1) 0 - getD y a 0
   unfolding namers
   namers-at a h = bucket-size _ _ _ _ _ (w .branches) a h
 
-  pub namers-rise : (a : ℕ) → a < 512 → getD y a 0 ≤ getD y (a + 1) 0
+  pub namers-rise : (a : ℕ) → a < mostNodes → getD y a 0 ≤ getD y (a + 1) 0
   namers-rise a h = bucket-rise _ _ _ _ _ (w .branches) a h
 
-  pub namer-at : (a i : ℕ) → a < 512 → i < length (namers E a) → getD (namers E a) i 0 ≡ getD y (513 + getD y a 0 + i) 0
+  pub namer-at : (a i : ℕ) → a < mostNodes → i < length (namers E a) → getD (namers E a) i 0 ≡ getD y (branchesBy + getD y a 0 + i) 0
   unfolding namers
-  namer-at a i h l = bucket-behind _ _ _ _ y 513 (w .branches) a i h l
+  namer-at a i h l = bucket-behind _ _ _ _ y branchesBy (w .branches) a i h l
 
-  pub namer-room : (a i : ℕ) → a < 512 → i < length (namers E a) → getD y a 0 + i < length (E .branches)
+  pub namer-room : (a i : ℕ) → a < mostNodes → i < length (namers E a) → getD y a 0 + i < length (E .branches)
   unfolding namers
   namer-room a i h l = bucket-room _ _ _ _ _ (w .branches) a i h l
 
@@ -81,15 +81,15 @@ module _ (E : Entries) (a : ℕ) where
 -- ---- making them
 
 module _ (t : List ℕ) (ok : Ready t) where
-  branch-key : (b : ℕ) → b < length (held t .branches) → keyAt t 2056 8 b ≡ branchEntryAt (held t) b .node
+  branch-key : (b : ℕ) → b < length (held t .branches) → keyAt t branchesFrom branchWide b ≡ branchEntryAt (held t) b .node
   unfolding keyAt
   branch-key b h = ap (λ e. e .node) (sym (branch-held t b h))
 
-  node-key : (n : ℕ) → n < length (held t .nodes) → keyAt t 9 4 n ≡ nodeEntryAt (held t) n .parent
+  node-key : (n : ℕ) → n < length (held t .nodes) → keyAt t (nodesFrom + 1) nodeWide n ≡ nodeEntryAt (held t) n .parent
   unfolding keyAt
   node-key n h = ap (λ e. e .parent) (sym (node-held t n h))
 
-  pub keys-branches : (k : ℕ) → k ≡ length (held t .branches) → Keys t 2056 8 k 512
+  pub keys-branches : (k : ℕ) → k ≡ length (held t .branches) → Keys t branchesFrom branchWide k mostNodes
   keys-branches k e =
       record {
         there = λ i h. omega (arith, ok .promises .limits .branches, ok .long);
@@ -97,7 +97,7 @@ module _ (t : List ℕ) (ok : Ready t) where
             λ i h. let l : i < length (held t .branches) = omega arith in omega (arith, branch-key i l, ok .promises .branch i l .node, ok .promises .limits .nodes);
       }
 
-  pub keys-nodes : (k : ℕ) → k ≡ length (held t .nodes) → Keys t 9 4 k 1025
+  pub keys-nodes : (k : ℕ) → k ≡ length (held t .nodes) → Keys t (nodesFrom + 1) nodeWide k (mostBranches + 1)
   keys-nodes k e =
       record {
         there = λ i h. omega (arith, ok .promises .limits .nodes, ok .long);
@@ -105,29 +105,29 @@ module _ (t : List ℕ) (ok : Ready t) where
       }
 
   -- the two parts of the slice put together
-  pub indexed : (r n : ℕ) (F D G P : List ℕ) → r ≡ length (held t .branches) → n ≡ length (held t .nodes) → length F ≡ 1537 → 1538 ≤ length G
-      → Buckets (keyAt t 2056 8) r 512 F (drop 513 F) → Buckets (keyAt t 9 4) n 1025 G (drop 1026 G) → Indexed (held t) (take 1537 (F ++ D) ++ (G ++ P))
+  pub indexed : (r n : ℕ) (F D G P : List ℕ) → r ≡ length (held t .branches) → n ≡ length (held t .nodes) → length F ≡ partsFrom → mostBranches + 2 + mostNodes ≤ length G
+      → Buckets (keyAt t branchesFrom branchWide) r mostNodes F (drop branchesBy F) → Buckets (keyAt t (nodesFrom + 1) nodeWide) n (mostBranches + 1) G (drop (mostBranches + 2) G) → Indexed (held t) (take partsFrom (F ++ D) ++ (G ++ P))
   indexed r n F D G P er en lf lg br bn =
       let x = F ++ (G ++ P) in
-      let low : (j : ℕ) → j < 1537 → getD x j 0 ≡ getD F j 0 = λ j h. List·getD-append F (G ++ P) 0 j (omega arith) in
-      let high : (j : ℕ) → j < 1538 → getD x (1537 + j) 0 ≡ getD G j 0 = λ j h.
-      ap (λ i. getD x i 0) (let z : 1537 + j ≡ length F + j = omega arith in z) ∙ getD-append-add F (G ++ P) j 0 ∙ List·getD-append G P 0 j (omega arith) in
+      let low : (j : ℕ) → j < partsFrom → getD x j 0 ≡ getD F j 0 = λ j h. List·getD-append F (G ++ P) 0 j (omega arith) in
+      let high : (j : ℕ) → j < mostBranches + 2 + mostNodes → getD x (partsFrom + j) 0 ≡ getD G j 0 = λ j h.
+      ap (λ i. getD x i 0) (let z : partsFrom + j ≡ length F + j = omega arith in z) ∙ getD-append-add F (G ++ P) j 0 ∙ List·getD-append G P 0 j (omega arith) in
       let w : Indexed (held t) x = record {
         long = omega (arith, length-append F (G ++ P), length-append G P);
-        branches = subst (λ k. Buckets (λ b. branchEntryAt (held t) b .node) k 512 x (drop 513 x)) er
-            (buckets-frame (keyAt t 2056 8) (λ b. branchEntryAt (held t) b .node) r 512 F (drop 513 F) x (drop 513 x) (λ b h. branch-key b (omega arith)) (λ k h. low k (omega arith))
-            (λ j h. getD-drop 513 x j 0 ∙ low (513 + j) (omega (arith, ok .promises .limits .branches)) ∙ sym (getD-drop 513 F j 0)) br);
-        parts = subst (λ k. Buckets (λ m. nodeEntryAt (held t) m .parent) k 1025 (drop 1537 x) (drop 2563 x)) en
-            (buckets-frame (keyAt t 9 4) (λ m. nodeEntryAt (held t) m .parent) n 1025 G (drop 1026 G) (drop 1537 x) (drop 2563 x) (λ m h. node-key m (omega arith)) (λ k h. getD-drop 1537 x k 0 ∙ high k (omega arith))
-            (λ j h. getD-drop 2563 x j 0 ∙ ap (λ i. getD x i 0) (let z : 2563 + j ≡ 1537 + (1026 + j) = omega arith in z) ∙ high (1026 + j) (omega (arith, ok .promises .limits .nodes)) ∙ sym (getD-drop 1026 G j 0)) bn);
+        branches = subst (λ k. Buckets (λ b. branchEntryAt (held t) b .node) k mostNodes x (drop branchesBy x)) er
+            (buckets-frame (keyAt t branchesFrom branchWide) (λ b. branchEntryAt (held t) b .node) r mostNodes F (drop branchesBy F) x (drop branchesBy x) (λ b h. branch-key b (omega arith)) (λ k h. low k (omega arith))
+            (λ j h. getD-drop branchesBy x j 0 ∙ low (branchesBy + j) (omega (arith, ok .promises .limits .branches)) ∙ sym (getD-drop branchesBy F j 0)) br);
+        parts = subst (λ k. Buckets (λ m. nodeEntryAt (held t) m .parent) k (mostBranches + 1) (drop partsFrom x) (drop partsBy x)) en
+            (buckets-frame (keyAt t (nodesFrom + 1) nodeWide) (λ m. nodeEntryAt (held t) m .parent) n (mostBranches + 1) G (drop (mostBranches + 2) G) (drop partsFrom x) (drop partsBy x) (λ m h. node-key m (omega arith)) (λ k h. getD-drop partsFrom x k 0 ∙ high k (omega arith))
+            (λ j h. getD-drop partsBy x j 0 ∙ ap (λ i. getD x i 0) (let z : partsBy + j ≡ partsFrom + (mostBranches + 2 + j) = omega arith in z) ∙ high (mostBranches + 2 + j) (omega (arith, ok .promises .limits .nodes)) ∙ sym (getD-drop (mostBranches + 2) G j 0)) bn);
       } in
-      subst (λ ys. Indexed (held t) (ys ++ (G ++ P))) (sym (take-at F D 1537 lf)) w
+      subst (λ ys. Indexed (held t) (ys ++ (G ++ P))) (sym (take-at F D partsFrom lf)) w
 
-  argument-key : (b : ℕ) → b < length (held t .branches) → keyAt t 2060 8 b ≡ branchEntryAt (held t) b .arg
+  argument-key : (b : ℕ) → b < length (held t .branches) → keyAt t (branchesFrom + 4) branchWide b ≡ branchEntryAt (held t) b .arg
   unfolding keyAt
   argument-key b h = ap (λ e. e .arg) (sym (branch-held t b h))
 
-  pub keys-arguments : (k : ℕ) → k ≡ length (held t .branches) → Keys t 2060 8 k 512
+  pub keys-arguments : (k : ℕ) → k ≡ length (held t .branches) → Keys t (branchesFrom + 4) branchWide k mostNodes
   keys-arguments k e =
       record {
         there = λ i h. omega (arith, ok .promises .limits .branches, ok .long);
@@ -136,12 +136,12 @@ module _ (t : List ℕ) (ok : Ready t) where
             omega (arith, argument-key i l, argument-small (people t) (held t) (ok .promises) i l);
       }
 
-  pub named : (r : ℕ) (y : List ℕ) → r ≡ length (held t .branches) → 1537 ≤ length y → Buckets (keyAt t 2060 8) r 512 y (drop 513 y) → Named (held t) y
+  pub named : (r : ℕ) (y : List ℕ) → r ≡ length (held t .branches) → namersLong ≤ length y → Buckets (keyAt t (branchesFrom + 4) branchWide) r mostNodes y (drop branchesBy y) → Named (held t) y
   named r y e l w =
       record {
         long = l;
-        branches = subst (λ k. Buckets (λ b. branchEntryAt (held t) b .arg) k 512 y (drop 513 y)) e
-            (buckets-frame (keyAt t 2060 8) (λ b. branchEntryAt (held t) b .arg) r 512 y (drop 513 y) y (drop 513 y) (λ b h. argument-key b (omega arith)) (λ k h. refl) (λ j h. refl) w);
+        branches = subst (λ k. Buckets (λ b. branchEntryAt (held t) b .arg) k mostNodes y (drop branchesBy y)) e
+            (buckets-frame (keyAt t (branchesFrom + 4) branchWide) (λ b. branchEntryAt (held t) b .arg) r mostNodes y (drop branchesBy y) y (drop branchesBy y) (λ b h. argument-key b (omega arith)) (λ k h. refl) (λ j h. refl) w);
       }
 
 pub rest-length : (x : List ℕ) (a : ℕ) → length (take (length x - a) (drop a x)) ≡ length x - a

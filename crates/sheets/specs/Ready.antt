@@ -2,7 +2,7 @@
 use Prim.Native.Nat.{ℕ, _+_, _≤_}
 use mathlib.Core.List.{List}
 use lib.ListN.{length, drop}
-use Rattle.tables.specs.Entries.{Entries, held, people, cellsFrom}
+use Rattle.tables.specs.Entries.{Entries, held, people, cellsFrom, mostNodes, mostBranches}
 use Rattle.tables.specs.SheetOf.{nodeEntryAt, branchEntryAt}
 use Rattle.bucket.specs.Bucket.{Buckets, bucketOf}
 use Rattle.reading.specs.Promises.{Promises}
@@ -12,18 +12,33 @@ pub record Ready (t : List ℕ) : Type 0 where
   pub long : cellsFrom + length (held t .cells) ≤ length t
   pub promises : Promises (people t) (held t)
 
--- From 0 where each node's branches start, from 513 the branches by node; from 1537 where each branch's parts start (and last those of no
--- branch, the roots), from 2563 the nodes by parent
+-- The index: from 0 where each node's branches start, then the branches by node; then where each branch's parts start (and last those of no
+-- branch, the roots), then the nodes by parent
+abbrev pub branchesBy : ℕ
+branchesBy = mostNodes + 1
+
+abbrev pub partsFrom : ℕ
+partsFrom = branchesBy + mostBranches
+
+abbrev pub partsBy : ℕ
+partsBy = partsFrom + mostBranches + 2
+
+abbrev pub indexLong : ℕ
+indexLong = partsBy + mostNodes
+
 pub record Indexed (E : Entries) (x : List ℕ) : Type 0 where
-  pub long : 3075 ≤ length x
-  pub branches : Buckets (λ b. branchEntryAt E b .node) (length (E .branches)) 512 x (drop 513 x)
-  pub parts : Buckets (λ n. nodeEntryAt E n .parent) (length (E .nodes)) 1025 (drop 1537 x) (drop 2563 x)
+  pub long : indexLong ≤ length x
+  pub branches : Buckets (λ b. branchEntryAt E b .node) (length (E .branches)) mostNodes x (drop branchesBy x)
+  pub parts : Buckets (λ n. nodeEntryAt E n .parent) (length (E .nodes)) (mostBranches + 1) (drop partsFrom x) (drop partsBy x)
 
 -- The branches whose argument is a: those that pay participant a, that have a parts, whose contract is node a, that renew as definition a
 unfoldable pub namers : Entries → ℕ → List ℕ
 namers E a = bucketOf (λ b. branchEntryAt E b .arg) (length (E .branches)) a
 
--- From 0 where the branches with each argument start, from 513 the branches by argument
+-- Their index: from 0 where the branches with each argument start, then the branches by argument
+abbrev pub namersLong : ℕ
+namersLong = branchesBy + mostBranches
+
 pub record Named (E : Entries) (y : List ℕ) : Type 0 where
-  pub long : 1537 ≤ length y
-  pub branches : Buckets (λ b. branchEntryAt E b .arg) (length (E .branches)) 512 y (drop 513 y)
+  pub long : namersLong ≤ length y
+  pub branches : Buckets (λ b. branchEntryAt E b .arg) (length (E .branches)) mostNodes y (drop branchesBy y)

@@ -4,9 +4,9 @@ use tables::Sheet;
 ghost use mathlib.Core.Path.{_≡_};
 ghost use Prim.Native.Nat.{_≤_, _<_};
 ghost use lib.ListN.{length, getD};
-ghost use Rattle.tables.specs.Entries.{held, people};
+ghost use Rattle.tables.specs.Entries.{held, people, mostNodes};
 ghost use Rattle.tables.specs.SheetOf.{nodeEntryAt, branchEntryAt, defEntryAt, listedAt, branchCount, branchNumber, partCount, partNumber, depositOf, ownerOf};
-ghost use Rattle.sheets.specs.Ready.{Ready, Indexed, namers, Named};
+ghost use Rattle.sheets.specs.Ready.{Ready, Indexed, namers, Named, indexLong, namersLong};
 
 // Where the numbers of the first node stand in a table, of the first branch, of the first definition.
 const NODE_DEFINITION: usize = Sheet::NODES_AT;
@@ -97,7 +97,7 @@ pub fn node_definition(t: &[usize], n: usize) -> usize
     requires { ⌜ n < length (held (now t) .nodes) ⌝ }
     ensures { λ r. ⌜ r ≡ nodeEntryAt (held (now (t .entry))) n .definition ⌝ }
 {
-    t[NODE_DEFINITION + 4 * n]
+    t[NODE_DEFINITION + Sheet::NODE_WIDE * n]
 }
 
 // The branch in which node n stands; of a root the number past the last that a branch can have.
@@ -106,7 +106,7 @@ pub fn node_parent(t: &[usize], n: usize) -> usize
     requires { ⌜ n < length (held (now t) .nodes) ⌝ }
     ensures { λ r. ⌜ r ≡ nodeEntryAt (held (now (t .entry))) n .parent ⌝ }
 {
-    t[NODE_PARENT + 4 * n]
+    t[NODE_PARENT + Sheet::NODE_WIDE * n]
 }
 
 pub fn node_weight(t: &[usize], n: usize) -> usize
@@ -114,7 +114,7 @@ pub fn node_weight(t: &[usize], n: usize) -> usize
     requires { ⌜ n < length (held (now t) .nodes) ⌝ }
     ensures { λ r. ⌜ r ≡ nodeEntryAt (held (now (t .entry))) n .weight ⌝ }
 {
-    t[NODE_WEIGHT + 4 * n]
+    t[NODE_WEIGHT + Sheet::NODE_WIDE * n]
 }
 
 pub fn branch_node(t: &[usize], b: usize) -> usize
@@ -122,7 +122,7 @@ pub fn branch_node(t: &[usize], b: usize) -> usize
     requires { ⌜ b < length (held (now t) .branches) ⌝ }
     ensures { λ r. ⌜ r ≡ branchEntryAt (held (now (t .entry))) b .node ⌝ }
 {
-    t[BRANCH_NODE + 8 * b]
+    t[BRANCH_NODE + Sheet::BRANCH_WIDE * b]
 }
 
 pub fn branch_signers(t: &[usize], b: usize) -> usize
@@ -130,7 +130,7 @@ pub fn branch_signers(t: &[usize], b: usize) -> usize
     requires { ⌜ b < length (held (now t) .branches) ⌝ }
     ensures { λ r. ⌜ r ≡ branchEntryAt (held (now (t .entry))) b .signers ⌝ }
 {
-    t[BRANCH_SIGNERS + 8 * b]
+    t[BRANCH_SIGNERS + Sheet::BRANCH_WIDE * b]
 }
 
 pub fn branch_opens(t: &[usize], b: usize) -> usize
@@ -138,7 +138,7 @@ pub fn branch_opens(t: &[usize], b: usize) -> usize
     requires { ⌜ b < length (held (now t) .branches) ⌝ }
     ensures { λ r. ⌜ r ≡ branchEntryAt (held (now (t .entry))) b .opens ⌝ }
 {
-    t[BRANCH_OPENS + 8 * b]
+    t[BRANCH_OPENS + Sheet::BRANCH_WIDE * b]
 }
 
 pub fn branch_kind(t: &[usize], b: usize) -> usize
@@ -146,7 +146,7 @@ pub fn branch_kind(t: &[usize], b: usize) -> usize
     requires { ⌜ b < length (held (now t) .branches) ⌝ }
     ensures { λ r. ⌜ r ≡ branchEntryAt (held (now (t .entry))) b .kind ⌝ }
 {
-    t[BRANCH_KIND + 8 * b]
+    t[BRANCH_KIND + Sheet::BRANCH_WIDE * b]
 }
 
 pub fn branch_arg(t: &[usize], b: usize) -> usize
@@ -154,7 +154,7 @@ pub fn branch_arg(t: &[usize], b: usize) -> usize
     requires { ⌜ b < length (held (now t) .branches) ⌝ }
     ensures { λ r. ⌜ r ≡ branchEntryAt (held (now (t .entry))) b .arg ⌝ }
 {
-    t[BRANCH_ARG + 8 * b]
+    t[BRANCH_ARG + Sheet::BRANCH_WIDE * b]
 }
 
 pub fn branch_first(t: &[usize], b: usize) -> usize
@@ -162,7 +162,7 @@ pub fn branch_first(t: &[usize], b: usize) -> usize
     requires { ⌜ b < length (held (now t) .branches) ⌝ }
     ensures { λ r. ⌜ r ≡ branchEntryAt (held (now (t .entry))) b .first ⌝ }
 {
-    t[BRANCH_FIRST + 8 * b]
+    t[BRANCH_FIRST + Sheet::BRANCH_WIDE * b]
 }
 
 pub fn branch_secrets(t: &[usize], b: usize) -> usize
@@ -170,7 +170,7 @@ pub fn branch_secrets(t: &[usize], b: usize) -> usize
     requires { ⌜ b < length (held (now t) .branches) ⌝ }
     ensures { λ r. ⌜ r ≡ branchEntryAt (held (now (t .entry))) b .count ⌝ }
 {
-    t[BRANCH_COUNT + 8 * b]
+    t[BRANCH_COUNT + Sheet::BRANCH_WIDE * b]
 }
 
 pub fn branch_cond(t: &[usize], b: usize) -> usize
@@ -178,7 +178,7 @@ pub fn branch_cond(t: &[usize], b: usize) -> usize
     requires { ⌜ b < length (held (now t) .branches) ⌝ }
     ensures { λ r. ⌜ r ≡ branchEntryAt (held (now (t .entry))) b .cond ⌝ }
 {
-    t[BRANCH_COND + 8 * b]
+    t[BRANCH_COND + Sheet::BRANCH_WIDE * b]
 }
 
 pub fn def_root(t: &[usize], d: usize) -> usize
@@ -186,7 +186,7 @@ pub fn def_root(t: &[usize], d: usize) -> usize
     requires { ⌜ d < length (held (now t) .defs) ⌝ }
     ensures { λ r. ⌜ r ≡ defEntryAt (held (now (t .entry))) d .root ⌝ }
 {
-    t[DEF_ROOT + 3 * d]
+    t[DEF_ROOT + Sheet::DEF_WIDE * d]
 }
 
 pub fn def_first(t: &[usize], d: usize) -> usize
@@ -194,7 +194,7 @@ pub fn def_first(t: &[usize], d: usize) -> usize
     requires { ⌜ d < length (held (now t) .defs) ⌝ }
     ensures { λ r. ⌜ r ≡ defEntryAt (held (now (t .entry))) d .first ⌝ }
 {
-    t[DEF_FIRST + 3 * d]
+    t[DEF_FIRST + Sheet::DEF_WIDE * d]
 }
 
 pub fn def_secrets(t: &[usize], d: usize) -> usize
@@ -202,7 +202,7 @@ pub fn def_secrets(t: &[usize], d: usize) -> usize
     requires { ⌜ d < length (held (now t) .defs) ⌝ }
     ensures { λ r. ⌜ r ≡ defEntryAt (held (now (t .entry))) d .secrets ⌝ }
 {
-    t[DEF_SECRETS + 3 * d]
+    t[DEF_SECRETS + Sheet::DEF_WIDE * d]
 }
 
 pub fn listed_at(t: &[usize], i: usize) -> usize
@@ -240,7 +240,7 @@ pub fn branch_count(t: &[usize], n: usize) -> usize
     requires { ⌜ n < length (held (now t) .nodes) ⌝ }
     ensures { λ r. ⌜ r ≡ branchCount (held (now (t .entry))) n ⌝ }
 {
-    t[NODE_COUNT + 4 * n]
+    t[NODE_COUNT + Sheet::NODE_WIDE * n]
 }
 
 // The number of branch i of node n.
@@ -278,7 +278,7 @@ pub fn part_of(t: &[usize], x: &[usize], b: usize, i: usize) -> usize
 // The index of a table.
 pub fn index(t: &[usize], x: &mut [usize])
     requires { ⌜ Ready (now t) ⌝ }
-    requires { ⌜ 3075 ≤ length (now x) ⌝ }
+    requires { ⌜ indexLong ≤ length (now x) ⌝ }
     ensures { λ _. ⌜ Indexed (held (now (t .entry))) (now (x .exit)) ⌝ }
 {
     let nodes = node_total(t);
@@ -286,7 +286,7 @@ pub fn index(t: &[usize], x: &mut [usize])
     bucket(
         t,
         BRANCH_NODE,
-        8,
+        Sheet::BRANCH_WIDE,
         branches,
         Sheet::NODES,
         &mut x[..PARTS_FROM],
@@ -294,7 +294,7 @@ pub fn index(t: &[usize], x: &mut [usize])
     bucket(
         t,
         NODE_PARENT,
-        4,
+        Sheet::NODE_WIDE,
         nodes,
         Sheet::BRANCHES + 1,
         &mut x[PARTS_FROM..],
@@ -305,7 +305,7 @@ pub fn index(t: &[usize], x: &mut [usize])
 pub fn namer_count(t: &[usize], y: &[usize], a: usize) -> usize
     requires { ⌜ Ready (now t) ⌝ }
     requires { ⌜ Named (held (now t)) (now y) ⌝ }
-    requires { ⌜ a < 512 ⌝ }
+    requires { ⌜ a < mostNodes ⌝ }
     ensures { λ r. ⌜ r ≡ length (namers (held (now (t .entry))) a) ⌝ }
 {
     y[a + 1] - y[a]
@@ -315,7 +315,7 @@ pub fn namer_count(t: &[usize], y: &[usize], a: usize) -> usize
 pub fn namer_of(t: &[usize], y: &[usize], a: usize, i: usize) -> usize
     requires { ⌜ Ready (now t) ⌝ }
     requires { ⌜ Named (held (now t)) (now y) ⌝ }
-    requires { ⌜ (a < 512) × (i < length (namers (held (now t)) a)) ⌝ }
+    requires { ⌜ (a < mostNodes) × (i < length (namers (held (now t)) a)) ⌝ }
     ensures { λ r. ⌜ r ≡ getD (namers (held (now (t .entry))) a) i 0 ⌝ }
 {
     let first = y[a];
@@ -325,9 +325,9 @@ pub fn namer_of(t: &[usize], y: &[usize], a: usize, i: usize) -> usize
 // The index of a table's branches by argument.
 pub fn index_namers(t: &[usize], y: &mut [usize])
     requires { ⌜ Ready (now t) ⌝ }
-    requires { ⌜ 1537 ≤ length (now y) ⌝ }
+    requires { ⌜ namersLong ≤ length (now y) ⌝ }
     ensures { λ _. ⌜ Named (held (now (t .entry))) (now (y .exit)) ⌝ }
 {
     let branches = branch_total(t);
-    bucket(t, BRANCH_ARG, 8, branches, Sheet::NODES, y);
+    bucket(t, BRANCH_ARG, Sheet::BRANCH_WIDE, branches, Sheet::NODES, y);
 }

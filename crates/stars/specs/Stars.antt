@@ -5,7 +5,8 @@ use mathlib.Core.List.{List, [], _∷_, _++_}
 use Rattle.bitml.specs.Lists.{All}
 use Rattle.texts.specs.Text.{letters}
 use Rattle.replies.specs.Answer.{leastText}
-use Rattle.checker.specs.Entry.{placesOfAll, answerTo, textIn}
+use Rattle.checker.specs.Entry.{answerTo, textIn}
+use Rattle.buffer.specs.Buffer.{placesOfAll}
 
 -- a request, and what the program `judge` prints for it
 abbrev pub Case : Type 0

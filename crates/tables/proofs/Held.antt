@@ -5,9 +5,9 @@ use native.Mathlib.Omega.{arith}
 use mathlib.Core.List.{List}
 use lib.ListN.{length, getD, take, drop, length-drop}
 use lib.Seq.{ext-getD, length-take-le, getD-take, getD-drop}
-use Rattle.tables.specs.Entries.{nodeIn, branchIn, defIn, listedIn, cellIn, held}
+use Rattle.tables.specs.Entries.{nodeIn, branchIn, defIn, listedIn, cellIn, held, cellsFrom}
 use Rattle.tables.specs.SheetOf.{nodeEntryAt, branchEntryAt, defEntryAt, listedAt, cellAt}
-use Rattle.tables.proofs.Laws.{firstOf-length, firstOf-getD}
+use Rattle.tables.proofs.Runs.{firstOf-length, firstOf-getD}
 
 module _ (t : List ℕ) where
   pub held-nodes : length (held t .nodes) ≡ getD t 2 0
@@ -47,8 +47,8 @@ module _ (t : List ℕ) where
   cell-held i h = firstOf-getD (cellIn t) (getD t 5 0) i 0 (subst (λ k. i < k) (firstOf-length (cellIn t) (getD t 5 0)) h)
 
   -- the cells of conditions are a part of the table
-  pub cells-part : 19304 + length (held t .cells) ≤ length t → held t .cells ≡ take (length (held t .cells)) (drop 19304 t)
+  pub cells-part : cellsFrom + length (held t .cells) ≤ length t → held t .cells ≡ take (length (held t .cells)) (drop cellsFrom t)
   cells-part h =
-      let long : length (held t .cells) ≤ length (drop 19304 t) = rw length-drop (omega arith) in
-      ext-getD 0 (held t .cells) (take (length (held t .cells)) (drop 19304 t)) (sym (length-take-le _ _ long))
-      (λ i l. cell-held i l ∙ sym (getD-take (length (held t .cells)) (drop 19304 t) i 0 l ∙ getD-drop 19304 t i 0))
+      let long : length (held t .cells) ≤ length (drop cellsFrom t) = rw length-drop (omega arith) in
+      ext-getD 0 (held t .cells) (take (length (held t .cells)) (drop cellsFrom t)) (sym (length-take-le _ _ long))
+      (λ i l. cell-held i l ∙ sym (getD-take (length (held t .cells)) (drop cellsFrom t) i 0 l ∙ getD-drop cellsFrom t i 0))

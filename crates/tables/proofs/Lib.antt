@@ -1,3 +1,5 @@
+pub mod Runs
+pub mod Sections
 pub mod Laws
 pub mod SheetOf
 pub mod Held

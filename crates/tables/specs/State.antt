@@ -8,7 +8,7 @@ use lib.Dec.{eqb}
 use Rattle.tables.specs.declared.St.{St}
 use Rattle.tables.specs.declared.Head.{Head}
 use Rattle.tables.specs.declared.Action.{Action}
-use Rattle.tables.specs.Entries.{NodeEntry, BranchEntry, DefEntry, Entries, firstOf, nodeIn, branchIn, defIn, listedIn, cellIn, held, people}
+use Rattle.tables.specs.Entries.{NodeEntry, BranchEntry, DefEntry, Entries, firstOf, nodeIn, branchIn, defIn, listedIn, cellIn, held, people, mostNodes, mostBranches, mostDefs, mostListed, mostCells}
 
 pub record State : Type 0 where
   pub at : ℕ
@@ -52,11 +52,11 @@ stateOf st t =
 
 -- what is filled lies within its section
 pub record Fits (st : St) : Type 0 where
-  pub nodes-fit : st .nodes ≤ 512
-  pub branches-fit : st .branches ≤ 1024
-  pub defs-fit : st .defs ≤ 32
-  pub listed-fit : st .listed ≤ 8960
-  pub cells-fit : st .cells ≤ 32768
+  pub nodes-fit : st .nodes ≤ mostNodes
+  pub branches-fit : st .branches ≤ mostBranches
+  pub defs-fit : st .defs ≤ mostDefs
+  pub listed-fit : st .listed ≤ mostListed
+  pub cells-fit : st .cells ≤ mostCells
 
 -- ---- an entry more
 

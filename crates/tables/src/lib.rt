@@ -3,7 +3,7 @@ ghost use mathlib.Core.Path.{_≡_};
 ghost use Prim.Native.Nat.{_+_, _^_, _≤_, _<_};
 ghost use lib.ListN.{length};
 ghost use Rattle.tables.specs.State.{stateOf, Fits, nodeEntry, branchEntry, defEntry, withNode, withBranch, withDef, withListed, withCell, moreNodes, moreBranches, moreDefs, moreListed, moreCells, listedOf, among, since, Headed};
-ghost use Rattle.tables.specs.Entries.{cellsFrom};
+ghost use Rattle.tables.specs.Entries.{cellsFrom, mostNodes, mostBranches, mostListed, mostCells, mostDefs};
 
 // How much of a sheet's table is filled, once it is read whole.
 pub struct Sheet {
@@ -80,14 +80,21 @@ impl Sheet {
 
     pub const CELLS_CELL: usize = 5;
 
+    // How many numbers an entry has.
+    pub const NODE_WIDE: usize = 4;
+
+    pub const BRANCH_WIDE: usize = 8;
+
+    pub const DEF_WIDE: usize = 3;
+
     // Where the table's sections start. A root's parent is BRANCHES, which is no branch.
     pub const NODES_AT: usize = 8;
 
-    pub const BRANCHES_AT: usize = Sheet::NODES_AT + 4 * Sheet::NODES;
+    pub const BRANCHES_AT: usize = Sheet::NODES_AT + Sheet::NODE_WIDE * Sheet::NODES;
 
-    pub const DEFS_AT: usize = Sheet::BRANCHES_AT + 8 * Sheet::BRANCHES;
+    pub const DEFS_AT: usize = Sheet::BRANCHES_AT + Sheet::BRANCH_WIDE * Sheet::BRANCHES;
 
-    pub const LISTED_AT: usize = Sheet::DEFS_AT + 3 * Sheet::DEFS;
+    pub const LISTED_AT: usize = Sheet::DEFS_AT + Sheet::DEF_WIDE * Sheet::DEFS;
 
     pub const LISTED: usize = 8960;
 
@@ -96,6 +103,16 @@ impl Sheet {
     pub const CELLS: usize = 32768;
 
     pub const TABLE: usize = Sheet::CELLS_AT + Sheet::CELLS;
+
+    // The longest texts of a short and of a middle length, and how many numbers their tables have: each cell takes two bytes of the text,
+    // and a shorter table is sooner cleared.
+    pub const SHORT: usize = 2048;
+
+    pub const SHORT_TABLE: usize = Sheet::CELLS_AT + Sheet::SHORT / 2;
+
+    pub const MIDDLE: usize = 8192;
+
+    pub const MIDDLE_TABLE: usize = Sheet::CELLS_AT + Sheet::MIDDLE / 2;
 }
 
 // The reading state: the position in the request, and how much of each section is filled.
@@ -175,10 +192,10 @@ pub fn put_node(
 ) -> St
     requires { ⌜ cellsFrom ≤ length (now t) ⌝ }
     requires { ⌜ Fits st ⌝ }
-    requires { ⌜ st .nodes < 512 ⌝ }
+    requires { ⌜ st .nodes < mostNodes ⌝ }
     ensures { λ r. ⌜ (r ≡ moreNodes st) × (stateOf r (now (t .exit)) ≡ withNode (nodeEntry definition parent weight count) (stateOf st (now (t .entry)))) ⌝ }
 {
-    let i = Sheet::NODES_AT + 4 * st.nodes;
+    let i = Sheet::NODES_AT + Sheet::NODE_WIDE * st.nodes;
     t[i] = definition;
     t[i + 1] = parent;
     t[i + 2] = weight;
@@ -197,10 +214,10 @@ pub fn put_node(
 pub fn put_branch(t: &mut [usize], st: St, h: Head, a: Action) -> St
     requires { ⌜ cellsFrom ≤ length (now t) ⌝ }
     requires { ⌜ Fits st ⌝ }
-    requires { ⌜ st .branches < 1024 ⌝ }
+    requires { ⌜ st .branches < mostBranches ⌝ }
     ensures { λ r. ⌜ (r ≡ moreBranches st) × (stateOf r (now (t .exit)) ≡ withBranch (branchEntry h a) (stateOf st (now (t .entry)))) ⌝ }
 {
-    let i = Sheet::BRANCHES_AT + 8 * st.branches;
+    let i = Sheet::BRANCHES_AT + Sheet::BRANCH_WIDE * st.branches;
     t[i] = h.node;
     t[i + 1] = h.signers;
     t[i + 2] = h.opens;
@@ -223,10 +240,10 @@ pub fn put_branch(t: &mut [usize], st: St, h: Head, a: Action) -> St
 pub fn put_def(t: &mut [usize], st: St, root: usize, first: usize, secrets: usize) -> St
     requires { ⌜ cellsFrom ≤ length (now t) ⌝ }
     requires { ⌜ Fits st ⌝ }
-    requires { ⌜ st .defs < 32 ⌝ }
+    requires { ⌜ st .defs < mostDefs ⌝ }
     ensures { λ r. ⌜ (r ≡ moreDefs st) × (stateOf r (now (t .exit)) ≡ withDef (defEntry root first secrets) (stateOf st (now (t .entry)))) ⌝ }
 {
-    let i = Sheet::DEFS_AT + 3 * st.defs;
+    let i = Sheet::DEFS_AT + Sheet::DEF_WIDE * st.defs;
     t[i] = root;
     t[i + 1] = first;
     t[i + 2] = secrets;
@@ -244,8 +261,8 @@ pub fn put_def(t: &mut [usize], st: St, root: usize, first: usize, secrets: usiz
 pub fn put_listed(t: &mut [usize], st: St, v: usize) -> St
     requires { ⌜ cellsFrom ≤ length (now t) ⌝ }
     requires { ⌜ Fits st ⌝ }
-    requires { ⌜ st .listed < 8960 ⌝ }
-    ensures { λ r. ⌜ (r ≡ moreListed st) × (stateOf r (now (t .exit)) ≡ withListed (v) (stateOf st (now (t .entry)))) ⌝ }
+    requires { ⌜ st .listed < mostListed ⌝ }
+    ensures { λ r. ⌜ (r ≡ moreListed st) × (stateOf r (now (t .exit)) ≡ withListed v (stateOf st (now (t .entry)))) ⌝ }
 {
     t[Sheet::LISTED_AT + st.listed] = v;
     St {
@@ -262,8 +279,8 @@ pub fn put_listed(t: &mut [usize], st: St, v: usize) -> St
 pub fn put_cell(t: &mut [usize], st: St, v: usize) -> St
     requires { ⌜ cellsFrom + st .cells < length (now t) ⌝ }
     requires { ⌜ Fits st ⌝ }
-    requires { ⌜ st .cells < 32768 ⌝ }
-    ensures { λ r. ⌜ (r ≡ moreCells st) × (stateOf r (now (t .exit)) ≡ withCell (v) (stateOf st (now (t .entry)))) ⌝ }
+    requires { ⌜ st .cells < mostCells ⌝ }
+    ensures { λ r. ⌜ (r ≡ moreCells st) × (stateOf r (now (t .exit)) ≡ withCell v (stateOf st (now (t .entry)))) ⌝ }
 {
     t[Sheet::CELLS_AT + st.cells] = v;
     St {
@@ -292,7 +309,7 @@ pub fn put_header(t: &mut [usize], participants: usize, st: St)
 // Whether v is among the listed numbers from one place to another.
 pub fn is_listed(t: &[usize], from: usize, to: usize, v: usize) -> bool
     requires { ⌜ cellsFrom ≤ length (now t) ⌝ }
-    requires { ⌜ to ≤ 8960 ⌝ }
+    requires { ⌜ to ≤ mostListed ⌝ }
     ensures { λ r. ⌜ r ≡ among v (since from (listedOf to (now (t .entry)))) ⌝ }
 {
     let mut i = from;

@@ -10,9 +10,9 @@ use lib.Seq.{take-suc, take-all}
 use lib.Dec.{ltb}
 use borrow.Author.Tests.{lt-ltb, le-ltb}
 use Rattle.bitml.specs.Answers.{Line, rowLine, refusedLine, takenLine, endLine, eventLine}
+use Rattle.buffer.specs.Buffer.{rowIn, rowsOf}
+use Rattle.buffer.proofs.Buffer.{rows-none, rows-next}
 use Rattle.texts.specs.Text.{digits, decimal, letters, field, fields, line, lineText, linesText}
-use Rattle.requests.specs.Rows.{rowIn, rowsOf}
-use Rattle.requests.proofs.Laws.{rows-none, rows-next}
 use Rattle.texts.specs.Wrote.{Wrote}
 use Rattle.texts.proofs.Writing.{wrote-none, wrote-then}
 

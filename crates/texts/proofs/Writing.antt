@@ -1,11 +1,12 @@
 -- Bytes written one behind the other. Assumes nothing.
 use mathlib.Core.Path.{_≡_, refl, sym, ap, ap₂, _∙_}
-use Prim.Native.Nat.{ℕ, zero, suc, _+_, _-_, _≤_, _<_}
+use Prim.Native.Nat.{ℕ, _+_, _-_, _≤_, _<_}
 use native.Mathlib.Omega.{arith}
 use native.Mathlib.Numerals.{add-one}
 use mathlib.Core.List.{List, [], _∷_, _++_, append-nil, append-assoc}
 use lib.ListN.{length, take, drop, set, replicate, length-set, length-append, length-take, take-append-drop}
 use lib.Seq.{take-suc-set, drop-set-lt, drop-drop}
+use Rattle.bitml.proofs.Lists.{drop-replicate}
 use Rattle.texts.specs.Wrote.{Wrote}
 
 pub wrote-none : (u : List ℕ) (a : ℕ) → Wrote u a [] u a
@@ -38,13 +39,8 @@ wrote-within {u₀} {xs} {u} {a} {r} w h =
     let e = sym (length-take r u) ∙ ap (λ zs. length zs) (w .front) ∙ length-append (take a u₀) xs in
     omega (arith, e, length-take a u₀, w .end)
 
-pub drop-zeros : (k n : ℕ) → drop k (replicate {A = ℕ} n 0) ≡ replicate (n - k) 0
-drop-zeros zero n = ap (λ m. replicate m 0) (let e : n ≡ n - 0 = omega arith in e)
-drop-zeros (suc k) zero = ap (λ m. replicate m 0) (let e : 0 ≡ 0 - suc k = omega arith in e)
-drop-zeros (suc k) (suc n) = drop-zeros k n ∙ ap (λ m. replicate m 0) (let e : n - k ≡ suc n - suc k = omega arith in e)
-
 -- A buffer of zeros holds what was written from its start on, and is zero past it
 pub wrote-all : {xs u : List ℕ} {r : ℕ} (n : ℕ) → Wrote (replicate n 0) 0 xs u r → u ≡ xs ++ replicate (n - length xs) 0
 wrote-all {xs} {u} {r} n w =
     sym (take-append-drop r u)
-    ∙ ap₂ (λ x y. x ++ y) (w .front) (w .rest ∙ drop-zeros r n ∙ ap (λ m. replicate m 0) (let e : n - r ≡ n - length xs = omega (arith, w .end) in e))
+    ∙ ap₂ (λ x y. x ++ y) (w .front) (w .rest ∙ drop-replicate r n 0 ∙ ap (λ m. replicate m 0) (let e : n - r ≡ n - length xs = omega (arith, w .end) in e))

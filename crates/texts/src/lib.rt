@@ -1,11 +1,13 @@
 // What is printed: each line, and each part of one, written into a buffer of bytes from a position on; the position behind it comes back.
+use buffer::row_branch;
+use buffer::row_node;
+use buffer::row_rank;
 ghost use mathlib.Core.Path.{_≡_};
 ghost use mathlib.Core.List.{[], _∷_, map};
 ghost use Prim.Native.Nat.{_+_, _*_, _≤_, _<_};
 ghost use lib.ListN.{length, replicate};
-ghost use Rattle.bitml.specs.Rows.{Row};
 ghost use Rattle.bitml.specs.Answers.{rowLine, liquidLine, frozenLine, stepLine, branchLine, refusedLine, takenLine, endLine, eventLine};
-ghost use Rattle.requests.specs.Rows.{rowsOf};
+ghost use Rattle.buffer.specs.Buffer.{rowWide, row, rowsOf};
 ghost use Rattle.texts.specs.Text.{decimal, fields, line, lineText, linesText};
 ghost use Rattle.texts.specs.Wrote.{Wrote};
 
@@ -30,15 +32,63 @@ pub fn put_word(out: &mut [u8], at: usize, word: &[u8]) -> usize
     e
 }
 
-pub fn put_number(out: &mut [u8], at: usize, n: usize) -> usize
+// Most numbers are short: up to two digits, up to three, up to four are written without recursion.
+fn put_two(out: &mut [u8], at: usize, n: usize) -> usize
+    requires { ⌜ n < 100 ⌝ }
     requires { ⌜ at + length (decimal n) ≤ length (now out) ⌝ }
     ensures { λ r. ⌜ Wrote (now (out .entry)) at (decimal n) (now (out .exit)) r ⌝ }
 {
     if n < 10 {
         return put_byte(out, at, b'0' + n as u8);
     }
-    let e = put_number(out, at, n / 10);
+    let e = put_byte(out, at, b'0' + (n / 10) as u8);
     put_byte(out, e, b'0' + (n % 10) as u8)
+}
+
+fn put_three(out: &mut [u8], at: usize, n: usize) -> usize
+    requires { ⌜ n < 1000 ⌝ }
+    requires { ⌜ at + length (decimal n) ≤ length (now out) ⌝ }
+    ensures { λ r. ⌜ Wrote (now (out .entry)) at (decimal n) (now (out .exit)) r ⌝ }
+{
+    if n < 100 {
+        return put_two(out, at, n);
+    }
+    let e = put_two(out, at, n / 10);
+    put_byte(out, e, b'0' + (n % 10) as u8)
+}
+
+fn put_four(out: &mut [u8], at: usize, n: usize) -> usize
+    requires { ⌜ n < 10000 ⌝ }
+    requires { ⌜ at + length (decimal n) ≤ length (now out) ⌝ }
+    ensures { λ r. ⌜ Wrote (now (out .entry)) at (decimal n) (now (out .exit)) r ⌝ }
+{
+    if n < 1000 {
+        return put_three(out, at, n);
+    }
+    let e = put_three(out, at, n / 10);
+    put_byte(out, e, b'0' + (n % 10) as u8)
+}
+
+// A number of any length: its last digit behind the others.
+fn put_long(out: &mut [u8], at: usize, n: usize) -> usize
+    requires { ⌜ at + length (decimal n) ≤ length (now out) ⌝ }
+    ensures { λ r. ⌜ Wrote (now (out .entry)) at (decimal n) (now (out .exit)) r ⌝ }
+{
+    if n < 10000 {
+        return put_four(out, at, n);
+    }
+    let e = put_long(out, at, n / 10);
+    put_byte(out, e, b'0' + (n % 10) as u8)
+}
+
+pub fn put_number(out: &mut [u8], at: usize, n: usize) -> usize
+    requires { ⌜ at + length (decimal n) ≤ length (now out) ⌝ }
+    ensures { λ r. ⌜ Wrote (now (out .entry)) at (decimal n) (now (out .exit)) r ⌝ }
+{
+    if n < 10000 {
+        return put_four(out, at, n);
+    }
+    put_long(out, at, n)
 }
 
 // A comma before each number.
@@ -68,7 +118,7 @@ pub fn put_line(out: &mut [u8], at: usize, word: &[u8], numbers: &[usize]) -> us
 
 pub fn put_row(out: &mut [u8], at: usize, node: usize, branch: usize, rank: usize) -> usize
     requires { ⌜ at + 80 ≤ length (now out) ⌝ }
-    ensures { λ r. ⌜ Wrote (now (out .entry)) at (lineText (rowLine (record { node = node; branch = branch; rank = rank }))) (now (out .exit)) r ⌝ }
+    ensures { λ r. ⌜ Wrote (now (out .entry)) at (lineText (rowLine (row node branch rank))) (now (out .exit)) r ⌝ }
 {
     let numbers = [node, branch, rank];
     put_line(out, at, b"row", &numbers)
@@ -144,15 +194,18 @@ pub fn put_end(out: &mut [u8], at: usize, time: usize, live: usize, paid: &[usiz
     put_byte(out, g, b'\n')
 }
 
-// The first n rows of a buffer, three numbers each.
+// The rows in the first n places of a row buffer.
 pub fn put_rows(out: &mut [u8], at: usize, rows: &[usize], n: usize) -> usize
-    requires { ⌜ (at + length (linesText (map rowLine (rowsOf n (now rows)))) + 80 ≤ length (now out)) × (3 * n ≤ length (now rows)) ⌝ }
+    requires { ⌜ (at + length (linesText (map rowLine (rowsOf n (now rows)))) + 80 ≤ length (now out)) × (rowWide * n ≤ length (now rows)) ⌝ }
     ensures { λ r. ⌜ Wrote (now (out .entry)) at (linesText (map rowLine (rowsOf n (now (rows .entry))))) (now (out .exit)) r ⌝ }
 {
     let mut e = at;
     let mut i = 0;
     while i < n {
-        e = put_row(out, e, rows[3 * i], rows[3 * i + 1], rows[3 * i + 2]);
+        let node = row_node(rows, i);
+        let branch = row_branch(rows, i);
+        let rank = row_rank(rows, i);
+        e = put_row(out, e, node, branch, rank);
         i += 1;
     }
     e

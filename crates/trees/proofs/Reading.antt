@@ -5,7 +5,7 @@ use mathlib.Core.List.{List, [], _∷_, _++_}
 use lib.ListN.{length, length-append}
 use native.Mathlib.Omega.{arith}
 use borrow.Author.Tests.{leb-false, eqb-false}
-use Rattle.tables.specs.Entries.{BranchEntry}
+use Rattle.tables.specs.Entries.{BranchEntry, mostBranches}
 use Rattle.tables.specs.State.{State, entries, withNode, withBranch, nodeEntry}
 use Rattle.steps.specs.Steps.{Outcome, toPlace, twice, times}
 use Rattle.conditions.specs.Condition.{storeAt, constantAt, clausesAt, secretAt, operandsAt, expressionWith, expressionIn, expressionAt, conditionWith, conditionIn, conditionAt}
@@ -68,9 +68,9 @@ module _ (s : List ℕ) (l : Listing) where
 
 -- "1,024 branches"
 abbrev pub Few : State → Type 0
-Few a = length (a .branches) ≤ 1024
+Few a = length (a .branches) ≤ mostBranches
 
-few-more : (e : BranchEntry) (xs : List BranchEntry) → length xs < 1024 → length (xs ++ (e ∷ [])) ≤ 1024
+few-more : (e : BranchEntry) (xs : List BranchEntry) → length xs < mostBranches → length (xs ++ (e ∷ [])) ≤ mostBranches
 few-more e xs h = rw length-append (omega (arith, h))
 
 -- where no part is left, there is no weight more
@@ -128,15 +128,15 @@ module _ (s : List ℕ) (lim : Limits) (contract : ContractReader) (reads : Read
   One m = Lists one (λ x. Unit {0}) (lim .def) m
 
   module _ (m g t : ℕ) where
-    pay-reads : (a : State) → length (a .branches) < 1024 → Ends (One m (listing a)) (leafAt s (headOf m g t) 0 (lim .people) a)
+    pay-reads : (a : State) → length (a .branches) < mostBranches → Ends (One m (listing a)) (leafAt s (headOf m g t) 0 (lim .people) a)
     unfolding leafAt write Weighed
     pay-reads a f = ends-go _ _ _ λ p e. ends-either _ _ _ (good (record { few = few-more _ (a .branches) f; tree = pay g t p; known = tt; weighed = tt; same = refl })) refused
 
-    renew-reads : (a : State) → length (a .branches) < 1024 → Ends (One m (listing a)) (leafAt s (headOf m g t) 3 (lim .defs) a)
+    renew-reads : (a : State) → length (a .branches) < mostBranches → Ends (One m (listing a)) (leafAt s (headOf m g t) 3 (lim .defs) a)
     unfolding leafAt write Weighed
     renew-reads a f = ends-go _ _ _ λ p e. ends-either _ _ _ (good (record { few = few-more _ (a .branches) f; tree = renew g t p; known = tt; weighed = tt; same = refl })) refused
 
-    split-reads : (a : State) → length (a .branches) < 1024 → Ends (One m (listing a)) (splitAt s contract (headOf m g t) a)
+    split-reads : (a : State) → length (a .branches) < mostBranches → Ends (One m (listing a)) (splitAt s contract (headOf m g t) a)
     unfolding splitAt write Weighed
     split-reads a f =
         ends-go _ _ _ λ n e. ends-test _ _ _ (λ _. refused) λ z.
@@ -151,12 +151,12 @@ module _ (s : List ℕ) (lim : Limits) (contract : ContractReader) (reads : Read
           same = r .same ∙ ap (λ c. write (lim .def) (length (a .branches)) (r .tree) (addBranch (splitEntry m g t c) (listing a))) (sym (r .known .0));
         }
 
-    open-reads : (n from : ℕ) (a₀ a : State) → length (a₀ .branches) < 1024 → Like (listing a₀) a → Ends (One m (listing a₀)) (openAt s contract (headOf m g t) n from a)
+    open-reads : (n from : ℕ) (a₀ a : State) → length (a₀ .branches) < mostBranches → Like (listing a₀) a → Ends (One m (listing a₀)) (openAt s contract (headOf m g t) n from a)
     unfolding openAt holdAt write writeContract Weighed
     open-reads n from a₀ a f h =
         ends-then _ _ (condition-same s (listing a₀) _ _ 64 a h) λ a₁ i.
         let e : BranchEntry = revealEntry m g t (length (a₁ .nodes)) from n (length (a .cells)) in
-        let f₁ : length (a₁ .branches) < 1024 = subst (λ (y : Listing). length (y .branches) < 1024) (sym i) f in
+        let f₁ : length (a₁ .branches) < mostBranches = subst (λ (y : Listing). length (y .branches) < mostBranches) (sym i) f in
         ends-map (reads (length (a₁ .branches)) 0 (withBranch e a₁) (few-more _ (a₁ .branches) f₁)) λ a₂ r.
         record {
           few = r .few;
@@ -166,13 +166,13 @@ module _ (s : List ℕ) (lim : Limits) (contract : ContractReader) (reads : Read
           same = r .same ∙ ap (λ (y : Listing). writeContract (lim .def) (length (y .branches)) 0 (r .tree) (addBranch (revealEntry m g t (length (y .nodes)) from n (length (a .cells))) y)) i;
         }
 
-    reveal-reads : (secrets : ℕ) (a : State) → length (a .branches) < 1024 → Ends (One m (listing a)) (revealAt s secrets contract (headOf m g t) a)
+    reveal-reads : (secrets : ℕ) (a : State) → length (a .branches) < mostBranches → Ends (One m (listing a)) (revealAt s secrets contract (headOf m g t) a)
     unfolding revealAt
     reveal-reads secrets a f =
         ends-go _ _ _ λ n e. ends-either _ _ _ refused
         (ends-then _ _ (secrets-same s (listing a) secrets _ n (toPlace a e) refl) λ a₁ h. open-reads n _ a a₁ f h)
 
-    action-reads : (p : ℕ) (a : State) (w : ℕ) → length (a .branches) < 1024 → Ends (One m (listing a)) (actionAt s lim contract (headOf m g t) p a w)
+    action-reads : (p : ℕ) (a : State) (w : ℕ) → length (a .branches) < mostBranches → Ends (One m (listing a)) (actionAt s lim contract (headOf m g t) p a w)
     unfolding actionAt
     action-reads p a w f =
         ends-either _ _ _ (pay-reads a f)

@@ -7,7 +7,7 @@ use lib.ListN.{length, List·getD-eq-default}
 use native.Mathlib.Decide.{decLt}
 use native.Mathlib.Omega.{arith}
 use borrow.Author.Tests.{lt-ltb, le-ltb}
-use Rattle.tables.specs.Entries.{DefEntry, Entries}
+use Rattle.tables.specs.Entries.{DefEntry, Entries, mostBranches}
 use Rattle.tables.specs.SheetOf.{nodeEntryAt, branchEntryAt, defEntryAt, partCount}
 use Rattle.lines.specs.Sheet.{accepted, readSheet}
 use Rattle.reading.specs.Promises.{noParent, Inside, Nesting, over}
@@ -51,7 +51,7 @@ module _ (E : Entries) (d n b : ℕ) (x : Contract) (h : Rooted E d n b x) where
         same = s .home ∙ sym (tree-home .at (holder E i) (s .under) (omega (arith, s .before, q)));
       }))
 
-module _ (E : Entries) (few : length (E .branches) ≤ 1024) where
+module _ (E : Entries) (few : length (E .branches) ≤ mostBranches) where
   over-top : (i : ℕ) → nodeEntryAt E i .parent ≡ noParent → over E i ≡ 0
   unfolding over
   over-top i e = rw (le-ltb (nodeEntryAt E i .parent) (length (E .branches)) (omega (arith, e, few)))
@@ -152,7 +152,7 @@ module _ (E : Entries) where
       (all-rising _ _ _ ts (h .4))
       λ k l p q u v. let a = s .at k p q in let c = r .at l u v in omega (arith, a, c)
 
-module _ (E : Entries) (few : length (E .branches) ≤ 1024) (ts : List DefTree) (h : Planted E 0 0 0 ts) where
+module _ (E : Entries) (few : length (E .branches) ≤ mostBranches) (ts : List DefTree) (h : Planted E 0 0 0 ts) where
   spots : (i : ℕ) → i < length (E .nodes) → Spot E i
   spots i l = each-node E _ (tree-spots E) 0 0 0 ts h .at i (omega arith) l
 

@@ -4,7 +4,7 @@ use mathlib.Core.Path.{_≡_, refl, ap, sym, _∙_, subst}
 use mathlib.Core.List.{List, [], _∷_}
 use lib.ListN.{length}
 use native.Mathlib.Omega.{arith}
-use Rattle.tables.specs.Entries.{Entries}
+use Rattle.tables.specs.Entries.{Entries, mostBranches}
 use Rattle.tables.specs.State.{State, entries, withListed, withDef, defEntry}
 use Rattle.steps.specs.Steps.{Outcome, next, bad, toPlace, times}
 use Rattle.contracts.specs.declared.Limits.{Limits}
@@ -33,7 +33,7 @@ record Defines (l : Listing) (a : State) : Type 0 where
 
 -- what E lists is l and then definitions
 pub record Forest (l : Listing) (E : Entries) : Type 0 where
-  pub few : length (E .branches) ≤ 1024
+  pub few : length (E .branches) ≤ mostBranches
   pub trees : List DefTree
   pub grown : Grown trees
   pub same : listingOf E ≡ defineAll trees l
@@ -50,11 +50,11 @@ module _ (s : List ℕ) where
     owners-same people zero a h = good h
     owners-same people (suc n) a h = ends-then _ _ (ends-go _ _ _ λ v e. ends-either _ _ _ (good h) refused) (owners-same people n)
 
-    module _ (z : Limits) (few : length (l .branches) ≤ 1024) where
+    module _ (z : Limits) (few : length (l .branches) ≤ mostBranches) where
       root-reads : (first n : ℕ) (a : State) → Like l a → Ends (Defines l) (rootAt s z first n a)
       unfolding rootAt define
       root-reads first n a h =
-          let f : Few a = subst (λ (y : Listing). length (y .branches) ≤ 1024) (sym h) few in
+          let f : Few a = subst (λ (y : Listing). length (y .branches) ≤ mostBranches) (sym h) few in
           ends-then _ _ (reads-tree s (within z n (length (a .defs))) 32 noParent 0 (withDef (defEntry (length (a .nodes)) first n) a) f) λ a₁ r.
           ends-go _ _ _ λ v e.
           good
@@ -73,12 +73,12 @@ module _ (s : List ℕ) where
           ends-go _ _ _ λ n f. ends-then _ _ (owners-same (z .people) n (toPlace a₁ f) i) (root-reads _ n))
           refused
 
-  all-reads : (z : Limits) (n : ℕ) (l : Listing) (a : State) → length (l .branches) ≤ 1024 → Like l a → Ends (λ a′. Forest l (entries a′)) (times n (defineAt s z) a)
+  all-reads : (z : Limits) (n : ℕ) (l : Listing) (a : State) → length (l .branches) ≤ mostBranches → Like l a → Ends (λ a′. Forest l (entries a′)) (times n (defineAt s z) a)
   unfolding times defineAll
-  all-reads z zero l a f h = good (record { few = subst (λ (y : Listing). length (y .branches) ≤ 1024) (sym h) f; trees = []; grown = none; same = h })
+  all-reads z zero l a f h = good (record { few = subst (λ (y : Listing). length (y .branches) ≤ mostBranches) (sym h) f; trees = []; grown = none; same = h })
   all-reads z (suc n) l a f h =
       ends-then _ _ (define-reads l z f a h) λ a₁ r.
-      let f₁ : length (define (r .tree) l .branches) ≤ 1024 = subst (λ (y : Listing). length (y .branches) ≤ 1024) (r .same) (r .few) in
+      let f₁ : length (define (r .tree) l .branches) ≤ mostBranches = subst (λ (y : Listing). length (y .branches) ≤ mostBranches) (r .same) (r .few) in
       ends-map (all-reads z n (define (r .tree) l) a₁ f₁ (r .same)) λ a₂ q.
       record { few = q .few; trees = r .tree ∷ q .trees; grown = more (r .weighed) (q .grown); same = q .same }
 

@@ -5,7 +5,7 @@ use mathlib.Core.Logic.{_⊎_}
 use mathlib.Core.List.{map}
 use lib.ListN.{length}
 use Rattle.bitml.specs.Lists.{sum}
-use Rattle.tables.specs.Entries.{Entries}
+use Rattle.tables.specs.Entries.{Entries, mostBranches}
 use Rattle.tables.specs.SheetOf.{nodeEntryAt, branchEntryAt, defEntryAt, branchCount, partNumbers, partCount}
 use Rattle.reading.specs.Promises.{noParent, Inside, Nesting}
 
@@ -41,7 +41,7 @@ pub record DefShape (E : Entries) (d : ℕ) : Type 0 where
 
 -- "1,024 branches": so that no branch is taken for the parent of a root
 pub record Shaped (E : Entries) : Type 0 where
-  pub few : length (E .branches) ≤ 1024
+  pub few : length (E .branches) ≤ mostBranches
   pub node : (n : ℕ) → n < length (E .nodes) → NodeShape E n
   pub branch : (b : ℕ) → b < length (E .branches) → BranchShape E b
   pub def : (d : ℕ) → d < length (E .defs) → DefShape E d

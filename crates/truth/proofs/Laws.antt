@@ -14,7 +14,7 @@ use Rattle.bitml.specs.Lists.{_&_}
 use Rattle.bitml.specs.Sheet.{Cond, value, holds, add, sub, both}
 use Rattle.bitml.specs.Runs.{closedExpr, closed, countsAlways}
 use Rattle.bitml.proofs.Lists.{and-no, and-end, and-assoc}
-use Rattle.tables.specs.Entries.{held}
+use Rattle.tables.specs.Entries.{held, cellsFrom}
 use Rattle.tables.specs.SheetOf.{pickE, pickC, condAt}
 use Rattle.tables.proofs.Held.{cells-part}
 use Rattle.sheets.specs.Ready.{Ready}
@@ -375,12 +375,12 @@ module _ (t values : List ℕ) where
 -- ---- the cells of a table that was read whole, as they are lent
 
 module _ {t : List ℕ} {n : ℕ} (r : Ready t) (e : n ≡ length (held t .cells)) where
-  lent : held t .cells ≡ take (19304 + n - 19304) (drop 19304 t)
+  lent : held t .cells ≡ take (cellsFrom + n - cellsFrom) (drop cellsFrom t)
   lent =
-      let m : length (held t .cells) ≡ 19304 + n - 19304 = omega (arith, e) in
-      cells-part t (omega (arith, r .long, r .promises .limits .cells)) ∙ ap (λ k. take k (drop 19304 t)) m
+      let m : length (held t .cells) ≡ cellsFrom + n - cellsFrom = omega (arith, e) in
+      cells-part t (omega (arith, r .long, r .promises .limits .cells)) ∙ ap (λ k. take k (drop cellsFrom t)) m
 
-  pub lent-cells : Cells (take (19304 + n - 19304) (drop 19304 t))
+  pub lent-cells : Cells (take (cellsFrom + n - cellsFrom) (drop cellsFrom t))
   lent-cells = subst (λ xs. Cells xs) lent (record {
     few = r .promises .limits .cells;
     cell = λ c. by-cases (decLe (length (held t .cells)) c)
@@ -389,21 +389,21 @@ module _ {t : List ℕ} {n : ℕ} (r : Ready t) (e : n ≡ length (held t .cells
   })
 
   abbrev lent-part : List ℕ
-  lent-part = take (19304 + n - 19304) (drop 19304 t)
+  lent-part = take (cellsFrom + n - cellsFrom) (drop cellsFrom t)
 
   -- the fields from a place on are those that are left
   lent-place : {c : ℕ} → c < length (held t .cells) → length lent-part - (n - c) ≡ c
   lent-place {c} h = omega (arith, e, h, ap (λ xs. length xs) lent)
 
-  pub lent-left : {c : ℕ} → c < length (held t .cells) → n - c ≤ length (take (19304 + n - 19304) (drop 19304 t))
+  pub lent-left : {c : ℕ} → c < length (held t .cells) → n - c ≤ length (take (cellsFrom + n - cellsFrom) (drop cellsFrom t))
   lent-left {c} h = omega (arith, e, ap (λ xs. length xs) lent)
 
-  pub lent-head : {c code : ℕ} → c < length (held t .cells) → code ≡ getD (take (19304 + n - 19304) (drop 19304 t)) c 0
-      → code ≡ getD (rest (take (19304 + n - 19304) (drop 19304 t)) (n - c)) 0 0
-  lent-head {c} h k = field-is (take (19304 + n - 19304) (drop 19304 t)) (n - c) (k ∙ ap (λ i. getD (take (19304 + n - 19304) (drop 19304 t)) i 0) (sym (lent-place h)))
+  pub lent-head : {c code : ℕ} → c < length (held t .cells) → code ≡ getD (take (cellsFrom + n - cellsFrom) (drop cellsFrom t)) c 0
+      → code ≡ getD (rest (take (cellsFrom + n - cellsFrom) (drop cellsFrom t)) (n - c)) 0 0
+  lent-head {c} h k = field-is (take (cellsFrom + n - cellsFrom) (drop cellsFrom t)) (n - c) (k ∙ ap (λ i. getD (take (cellsFrom + n - cellsFrom) (drop cellsFrom t)) i 0) (sym (lent-place h)))
 
   pub lent-truth : {values : List ℕ} {c next : ℕ} {S U : List ℕ} → c < length (held t .cells)
-      → HoldsAt (take (19304 + n - 19304) (drop 19304 t)) values (n - c) S next U → TruthOf (condAt (held t) c) values S U
+      → HoldsAt (take (cellsFrom + n - cellsFrom) (drop cellsFrom t)) values (n - c) S next U → TruthOf (condAt (held t) c) values S U
   unfolding condAt
   lent-truth {values} {c} {next} {S} {U} k h = record {
     truth = h .truth ∙ ap (λ i. cond (holds (numbers values) (condIn lent-part (drop i lent-part) .0)) 0 1) (lent-place k)

@@ -9,10 +9,11 @@ use Rattle.bitml.specs.Lists.{_&_}
 use Rattle.bitml.specs.Sheet.{Expr, Cond, value, holds}
 use Rattle.bitml.specs.Runs.{closedExpr, closed}
 use Rattle.tables.specs.SheetOf.{readE, readC, levels}
+use Rattle.tables.specs.Entries.{mostCells}
 
 -- "`k`,number up to 1,000,000,000" bounds the cells of conditions, and "32,768 bytes" how many there are
 pub record Cells (cells : List ℕ) : Type 0 where
-  pub few : length cells ≤ 32768
+  pub few : length cells ≤ mostCells
   pub cell : (c : ℕ) → getD cells c 0 ≤ 1000000000
 
 -- "`play` with a value for each secret of definition 0 (0 to 1,000,000,000 ..)"

@@ -14,21 +14,21 @@ use Rattle.bitml.specs.Rule.{Verdict, liquid, frozen, verdict, stuck, rows, row
 use Rattle.bitml.specs.Demands.{Best}
 use Rattle.bitml.proofs.Demands.{demands}
 use Rattle.bitml.proofs.Lists.{length-up, all-map, all-mem, all-imp, all-both, in-range}
-use Rattle.bitml.specs.Answers.{rowLine, liquidLine, frozenLine, refused, printed, liquidBy, making, madeLines, madeRows, madeBy, checkedBy, answer}
+use Rattle.bitml.specs.Answers.{rowLine, liquidLine, frozenLine, refused, printed, liquidBy, making, madeLines, madeRows, madeBy, checkedBy, answer, placesOfOne}
 use Rattle.tables.specs.Entries.{Entries, held, people}
 use Rattle.tables.specs.SheetOf.{nodeEntryAt, branchCount, sheetOf, sheetIn}
 use Rattle.tables.proofs.SheetOf.{keep-le, nodes-are, count-of}
+use Rattle.buffer.specs.Buffer.{rowsOf, filled, numbersOfOne, rowWide}
 use Rattle.reading.specs.Promises.{Promises}
 use Rattle.reading.proofs.Formed.{well-formed, ranks-small}
-use Rattle.requests.specs.Rows.{RowFits, rowsOf}
+use Rattle.requests.specs.Rows.{RowFits}
 use Rattle.sheets.specs.Ready.{Ready}
-use Rattle.buffer.specs.Filled.{filled}
 use Rattle.exits.specs.Made.{answerOf, bufferOf}
 use Rattle.exits.specs.declared.Verdict.the-variants.{Liquid, Frozen}
 use Rattle.exits.proofs.Told.{line-is, told-liquid, told-frozen}
 use Rattle.rows.specs.Given.{answerOf as answerOfRows, bufferOf as bufferOfRows}
 use Rattle.rows.specs.declared.Checked.the-variants as checked
-use Rattle.rows.proofs.Buffer.{rows-filled}
+use Rattle.buffer.proofs.Buffer.{rows-filled}
 use Rattle.texts.specs.Text.{lineText, linesText}
 use Rattle.texts.specs.Wrote.{Wrote}
 use Rattle.texts.proofs.Writing.{wrote-then}
@@ -59,7 +59,7 @@ module _ (s : Sheet) (p : ℕ) (first : defAt s 0 .root ≡ 0) where
 
   -- ---- the lines of the verdict that was found, from position a on
 
-  pub made-liquid : (v : Verdict) (n : ℕ) (u z b b′ : List ℕ) (a e k count rank : ℕ) → 3 * count ≤ n → Liquid count rank ≡ answerOf v → u ≡ bufferOf n v
+  pub made-liquid : (v : Verdict) (n : ℕ) (u z b b′ : List ℕ) (a e k count rank : ℕ) → rowWide * count ≤ n → Liquid count rank ≡ answerOf v → u ≡ bufferOf n v
       → Wrote z a (linesText (map rowLine (rowsOf count u))) b e → Wrote b e (lineText (liquidLine p count rank)) b′ k
       → Wrote z a (linesText (madeLines s p v)) b′ k
   unfolding bufferOf madeLines
@@ -131,11 +131,11 @@ made-rows Q s p none some = go (stuck s p) refl
     go [] e = some (ap (λ ns. verdict ns (rows s p)) e)
     go (x ∷ ns) e = none
 
-pub made-few : (K : ℕ) (E : Entries) → Promises K E → (p : ℕ) → length (madeRows (make (sheetOf K E) p)) ≤ 512
+pub made-few : (K : ℕ) (E : Entries) → Promises K E → (p : ℕ) → length (madeRows (make (sheetOf K E) p)) ≤ placesOfOne
 made-few K E ok p =
-    made-rows (λ R. length R ≤ 512) (sheetOf K E) p (omega arith) λ e. omega (arith, rows-few (sheetOf K E) p, nodes-are K E, ok .limits .nodes)
+    made-rows (λ R. length R ≤ placesOfOne) (sheetOf K E) p (omega arith) λ e. omega (arith, rows-few (sheetOf K E) p, nodes-are K E, ok .limits .nodes)
 
-pub made-count : (t : List ℕ) → Ready t → (p count rank : ℕ) → Liquid count rank ≡ answerOf (make (sheetIn t) p) → count ≤ 512
+pub made-count : (t : List ℕ) → Ready t → (p count rank : ℕ) → Liquid count rank ≡ answerOf (make (sheetIn t) p) → count ≤ placesOfOne
 unfolding answerOf madeRows
 made-count t ok p count rank l = omega (arith, counted (make (sheetIn t) p) l, made-few (people t) (held t) (ok .promises) p)
   where
@@ -184,13 +184,13 @@ module _ (t : List ℕ) (ok : Ready t) (p : ℕ) where
   made-short = all-imp (λ r h. h .1) (made-printed (people t) (held t) (ok .promises) p)
 
   -- the rows that stand in the buffer, as they are printed
-  pub rows-room : (n : ℕ) (u : List ℕ) (count rank : ℕ) → 1536 ≤ n → Liquid count rank ≡ answerOf (make S p) → u ≡ bufferOf n (make S p)
-      → length (linesText (map rowLine (rowsOf count u))) ≤ 8192
+  pub rows-room : (n : ℕ) (u : List ℕ) (count rank : ℕ) → numbersOfOne ≤ n → Liquid count rank ≡ answerOf (make S p) → u ≡ bufferOf n (make S p)
+      → length (linesText (map rowLine (rowsOf count u))) ≤ 16 * placesOfOne
   unfolding answerOf bufferOf madeRows
   rows-room n u count rank h l f = go (make S p) l f (made-short) (made-few (people t) (held t) (ok .promises) p)
     where
-      go : (v : Verdict) → Liquid count rank ≡ answerOf v → u ≡ bufferOf n v → All Short (madeRows v) → length (madeRows v) ≤ 512
-          → length (linesText (map rowLine (rowsOf count u))) ≤ 8192
+      go : (v : Verdict) → Liquid count rank ≡ answerOf v → u ≡ bufferOf n v → All Short (madeRows v) → length (madeRows v) ≤ placesOfOne
+          → length (linesText (map rowLine (rowsOf count u))) ≤ 16 * placesOfOne
       go (liquid R) l f a few =
           let c : count ≡ length R = cc in
           let g : rowsOf count u ≡ R = ap₂ rowsOf c f ∙ rows-filled n R (omega arith) in

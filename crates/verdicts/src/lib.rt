@@ -1,5 +1,7 @@
 // `make`, `makeall` and `check` of a sheet that stands in the table, with their text.
-use buffer::clear as clear_numbers;
+use buffer::NUMBERS;
+use buffer::PLACES;
+use buffer::clear_past;
 use exits::Verdict;
 use exits::make;
 use reached::reach;
@@ -24,7 +26,7 @@ ghost use Rattle.bitml.specs.Rule as rule;
 ghost use Rattle.bitml.specs.Answers.{making, makingAll, checking, madeLines, answer};
 ghost use Rattle.tables.specs.Entries.{held, people};
 ghost use Rattle.tables.specs.SheetOf.{sheetIn};
-ghost use Rattle.requests.specs.Rows.{rowsOf};
+ghost use Rattle.buffer.specs.Buffer.{rowsOf, numbersOfOne, numbersOfAll};
 ghost use Rattle.sheets.specs.Ready.{Ready, Indexed};
 ghost use Rattle.reached.specs.Marks.{MarksReached};
 ghost use Rattle.exits.specs.Made.{bufferOf};
@@ -33,9 +35,6 @@ ghost use Rattle.texts.specs.Text.{linesText};
 ghost use Rattle.texts.specs.Wrote.{Wrote};
 ghost use Rattle.replies.specs.Answer.{Gives, leastText};
 ghost use Rattle.verdicts.specs.Parties.{mostOfOne, linesUpTo, numbersUpTo};
-
-// Three numbers for each of the 512 places of one participant.
-const NUMBERS: usize = 1536;
 
 // What `make`,p answers, where the reached nodes are marked: the rows into the lent places and, with the last line, into the text from
 // `at` on.
@@ -49,7 +48,7 @@ fn verdict_for(
     marks: &[usize; Sheet::NODES],
 ) -> usize
     requires { ⌜ Ready (now t) ⌝ }
-    requires { ⌜ (p < people (now t)) × (1536 ≤ length (now rows)) × (at + mostOfOne ≤ length (now text)) ⌝ }
+    requires { ⌜ (p < people (now t)) × (numbersOfOne ≤ length (now rows)) × (at + mostOfOne ≤ length (now text)) ⌝ }
     requires { ⌜ Indexed (held (now t)) (now x) ⌝ }
     requires { ⌜ MarksReached (people (now t)) (held (now t)) (now marks) ⌝ }
     ensures { λ r. ⌜ now (rows .exit) ≡ bufferOf (length (now (rows .entry))) (rule.make (sheetIn (now (t .entry))) p) ⌝ }
@@ -75,7 +74,7 @@ fn verdicts_for(
     marks: &[usize; Sheet::NODES],
 ) -> usize
     requires { ⌜ Ready (now t) ⌝ }
-    requires { ⌜ (24576 ≤ length (now rows)) × (leastText ≤ length (now text)) ⌝ }
+    requires { ⌜ (numbersOfAll ≤ length (now rows)) × (leastText ≤ length (now text)) ⌝ }
     requires { ⌜ Indexed (held (now t)) (now x) ⌝ }
     requires { ⌜ MarksReached (people (now t)) (held (now t)) (now marks) ⌝ }
     ensures { λ r. ⌜ now (rows .exit) ≡ numbersUpTo (sheetIn (now (t .entry))) (people (now (t .entry))) (now (rows .entry)) ⌝ }
@@ -96,7 +95,7 @@ fn verdicts_for(
 // `make`,p: the rows into the row buffer and, with the last line, into the text.
 pub fn make_for(t: &[usize], p: usize, rows: &mut [usize], text: &mut [u8]) -> Reply
     requires { ⌜ Ready (now t) ⌝ }
-    requires { ⌜ (p < people (now t)) × (1536 ≤ length (now rows)) × (leastText ≤ length (now text)) ⌝ }
+    requires { ⌜ (p < people (now t)) × (numbersOfOne ≤ length (now rows)) × (leastText ≤ length (now text)) ⌝ }
     ensures { λ r. ⌜ Gives (answer (making (sheetIn (now (t .entry))) p)) (length (now (rows .entry))) (length (now (text .entry))) r (now (rows .exit)) (now (text .exit)) ⌝ }
 {
     let mut x = [0usize; INDEX];
@@ -111,7 +110,7 @@ pub fn make_for(t: &[usize], p: usize, rows: &mut [usize], text: &mut [u8]) -> R
 // `makeall`: for each participant what `make` answers, its rows into the next 512 places and its lines behind those before.
 pub fn make_all_for(t: &[usize], rows: &mut [usize], text: &mut [u8]) -> Reply
     requires { ⌜ Ready (now t) ⌝ }
-    requires { ⌜ (24576 ≤ length (now rows)) × (leastText ≤ length (now text)) ⌝ }
+    requires { ⌜ (numbersOfAll ≤ length (now rows)) × (leastText ≤ length (now text)) ⌝ }
     ensures { λ r. ⌜ Gives (answer (makingAll (sheetIn (now (t .entry))))) (length (now (rows .entry))) (length (now (text .entry))) r (now (rows .exit)) (now (text .exit)) ⌝ }
 {
     let mut x = [0usize; INDEX];
@@ -119,7 +118,9 @@ pub fn make_all_for(t: &[usize], rows: &mut [usize], text: &mut [u8]) -> Reply
     let mut marks = [0usize; Sheet::NODES];
     reach(t, &mut marks, &x);
     clear(text);
-    clear_numbers(rows);
+    // what `make` fills is cleared there
+    let k = people(t);
+    clear_past(rows, PLACES * k);
     let e = verdicts_for(t, rows, text, &x, &marks);
     answered(e)
 }

@@ -12,7 +12,7 @@ use Rattle.bitml.specs.Runs.{next}
 use Rattle.bitml.specs.Why.{near}
 use Rattle.bitml.proofs.Lists.{any-mem}
 use Rattle.bitml.proofs.Shortest.{near-is, near-more, near-step, near-branch}
-use Rattle.tables.specs.Entries.{Entries}
+use Rattle.tables.specs.Entries.{Entries, mostNodes}
 use Rattle.tables.specs.SheetOf.{sheetOf, branchOf, nodeEntryAt, branchEntryAt, defEntryAt, branchCount, branchNumber}
 use Rattle.tables.proofs.SheetOf.{nodes-are, count-of, branch-of, branch-small, branch-node, next-renewal}
 use Rattle.reading.specs.Promises.{Promises}
@@ -68,7 +68,7 @@ module _ (E : Entries) where
 
 -- ---- nothing is marked at first
 
-pub marked-none : (K : ℕ) (E : Entries) (g : ℕ) (D Q : List ℕ) → length D ≡ 512 → length Q ≡ 512 → ((m : ℕ) → getD D m 0 ≡ 0) → Marked K E g D Q 0
+pub marked-none : (K : ℕ) (E : Entries) (g : ℕ) (D Q : List ℕ) → length D ≡ mostNodes → length Q ≡ mostNodes → ((m : ℕ) → getD D m 0 ≡ 0) → Marked K E g D Q 0
 marked-none K E g D Q l w f =
     record {
       long = l;

@@ -12,14 +12,14 @@ use borrow.Author.Tests.{ne-eqb}
 use Rattle.bitml.specs.Why.{near}
 use Rattle.bitml.proofs.Lists.{sum-set}
 use Rattle.bitml.proofs.Counting.{at-store}
-use Rattle.tables.specs.Entries.{Entries}
+use Rattle.tables.specs.Entries.{Entries, mostNodes}
 use Rattle.tables.specs.SheetOf.{sheetOf}
 use Rattle.reading.specs.Promises.{Promises}
 use Rattle.reached.specs.Marks.{flag}
 use Rattle.reached.proofs.Queue.{flags-le, room}
 use Rattle.ways.specs.Marks.{Marked, Close, Grew}
 
-pub tail-le : {K : ℕ} {E : Entries} {g : ℕ} {D Q : List ℕ} {tail : ℕ} → Marked K E g D Q tail → tail ≤ 512
+pub tail-le : {K : ℕ} {E : Entries} {g : ℕ} {D Q : List ℕ} {tail : ℕ} → Marked K E g D Q tail → tail ≤ mostNodes
 tail-le {D = D} mk = omega (arith, flags-le D, mk .long, mk .count)
 
 pub grew-same : (D Q : List ℕ) (tail : ℕ) → Grew D Q tail D Q tail
@@ -37,13 +37,13 @@ grew-then v w =
     }
 
 module _ {K : ℕ} {E : Entries} {g : ℕ} {D Q : List ℕ} {tail n : ℕ} (ok : Promises K E) (mk : Marked K E g D Q tail) (hn : n < length (E .nodes)) where
-  pub visit-in : n < 512
+  pub visit-in : n < mostNodes
   visit-in = omega (arith, ok .limits .nodes)
 
   visit-long : n < length D
   visit-long = omega (arith, visit-in, mk .long)
 
-  pub visit-room : getD D n 0 ≡ 0 → tail < 512
+  pub visit-room : getD D n 0 ≡ 0 → tail < mostNodes
   visit-room e = omega (arith, room D n visit-long e, mk .long, mk .count)
 
   visit-place : getD D n 0 ≡ 0 → getD (set Q tail n) tail 0 ≡ n

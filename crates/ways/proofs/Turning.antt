@@ -13,7 +13,7 @@ use Rattle.bitml.specs.Runs.{next}
 use Rattle.bitml.specs.Why.{near, branchToward, trail}
 use Rattle.bitml.proofs.Lists.{is-false, any-mem, mem-any, all-of, all-mem, keep-imp, up-mem}
 use Rattle.bitml.proofs.Shortest.{lowest-is, near-step, near-branch, trail-one, trail-lowest}
-use Rattle.tables.specs.Entries.{Entries}
+use Rattle.tables.specs.Entries.{Entries, mostNodes}
 use Rattle.tables.specs.SheetOf.{sheetOf, branchOf, actionOf, branchEntryAt, defEntryAt, branchCount, branchNumber, partNumbers, partCount, partNumber}
 use Rattle.tables.proofs.SheetOf.{all-in, nodes-are, count-of, branch-of, branch-small, part-small, next-renewal}
 use Rattle.reading.specs.Promises.{Promises}
@@ -45,7 +45,7 @@ kept-rise T a (suc n) i j h l = go (T a) i j h l (kept-rise T (suc a) n)
     go true (suc i) (suc j) h l f = f i j (omega arith) (omega arith)
 
 module _ (E : Entries) (D : List ℕ) (b k : ℕ) where
-  pub part-found : (i : ℕ) → length (E .nodes) ≤ 512 → i < partCount E b → getD D (partNumber E b i) 0 ≡ k → ((j : ℕ) → j < i → getD D (partNumber E b j) 0 ≡ k → ⊥)
+  pub part-found : (i : ℕ) → length (E .nodes) ≤ mostNodes → i < partCount E b → getD D (partNumber E b i) 0 ≡ k → ((j : ℕ) → j < i → getD D (partNumber E b j) 0 ≡ k → ⊥)
       → Found D (partNumbers E b) k (partNumber E b i)
   unfolding Found partCount partNumber partNumbers
   part-found i few h e f = inl (
@@ -61,15 +61,15 @@ module _ (E : Entries) (D : List ℕ) (b k : ℕ) where
     },
   )
 
-  pub part-missed : (i : ℕ) → partCount E b ≤ i → ((j : ℕ) → j < i → getD D (partNumber E b j) 0 ≡ k → ⊥) → Found D (partNumbers E b) k 512
+  pub part-missed : (i : ℕ) → partCount E b ≤ i → ((j : ℕ) → j < i → getD D (partNumber E b j) 0 ≡ k → ⊥) → Found D (partNumbers E b) k mostNodes
   unfolding Found partCount partNumber
   part-missed i h f = inr (refl, λ j hj q. let w = place-of (partNumbers E b) hj in f (w .0) (omega (arith, w .1)) (ap (λ m. getD D m 0) (w .2) ∙ q))
 
-pub one-found : (D : List ℕ) (k m n : ℕ) → m ≡ n → m < 512 → getD D m 0 ≡ k → Found D (n ∷ []) k m
+pub one-found : (D : List ℕ) (k m n : ℕ) → m ≡ n → m < mostNodes → getD D m 0 ≡ k → Found D (n ∷ []) k m
 unfolding Found
 one-found D k m n e h q = inl (h, record { listed = List·Memᴰ·head e; mark = q; lowest = λ j hj r. let z = List·Memᴰ·eq-of-singleton hj in omega arith })
 
-pub one-missed : (D : List ℕ) (k m n : ℕ) → m ≡ n → (getD D m 0 ≡ k → ⊥) → Found D (n ∷ []) k 512
+pub one-missed : (D : List ℕ) (k m n : ℕ) → m ≡ n → (getD D m 0 ≡ k → ⊥) → Found D (n ∷ []) k mostNodes
 unfolding Found
 one-missed D k m n e f = inr (refl, λ j hj q. f (ap (λ n. getD D n 0) (e ∙ sym (List·Memᴰ·eq-of-singleton hj)) ∙ q))
 
@@ -98,7 +98,7 @@ pub none-first : (K : ℕ) (E : Entries) (D : List ℕ) (n k : ℕ) → NoneBefo
 unfolding NoneBefore
 none-first K E D n k j h = absurd (omega arith)
 
-pub none-more : (K : ℕ) (E : Entries) (D : List ℕ) (n k i b r : ℕ) → b ≡ branchNumber E n i → NoneBefore K E D n k i → Found D (next (sheetOf K E) (branchOf E b .action)) k r → 512 ≤ r
+pub none-more : (K : ℕ) (E : Entries) (D : List ℕ) (n k i b r : ℕ) → b ≡ branchNumber E n i → NoneBefore K E D n k i → Found D (next (sheetOf K E) (branchOf E b .action)) k r → mostNodes ≤ r
     → NoneBefore K E D n k (i + 1)
 unfolding NoneBefore Found
 none-more K E D n k i b r e f w big j hj = by-cases (decLe (suc j) i) (λ z. f j z) (λ z. let q : branchNumber E n j ≡ b = ap (branchNumber E n) (omega arith) ∙ sym e in rw q (missed w))
@@ -107,7 +107,7 @@ none-more K E D n k i b r e f w big j hj = by-cases (decLe (suc j) i) (λ z. f j
     missed (inl w) = absurd (omega (arith, w .0))
     missed (inr w) = w .1
 
-found-lowest : (D ns : List ℕ) (k r : ℕ) → Found D ns k r → r < 512 → Lowest D ns k r
+found-lowest : (D ns : List ℕ) (k r : ℕ) → Found D ns k r → r < mostNodes → Lowest D ns k r
 unfolding Found
 found-lowest D ns k r (inl w) h = w .1
 found-lowest D ns k r (inr w) h = absurd (omega (arith, w .0))
@@ -175,7 +175,7 @@ module _ (K : ℕ) (E : Entries) (ok : Promises K E) (g : ℕ) (D : List ℕ) (x
 
 -- for whatever node the distances are to
 pub turned : (K : ℕ) (E : Entries) → Promises K E → (D : List ℕ) (n i b m : ℕ) → b ≡ branchNumber E n i → n < length (E .nodes) → 1 < getD D n 0 → i < branchCount E n
-    → NoneBefore K E D n (getD D n 0 - 1) i → Found D (next (sheetOf K E) (branchOf E b .action)) (getD D n 0 - 1) m → m < 512
+    → NoneBefore K E D n (getD D n 0 - 1) i → Found D (next (sheetOf K E) (branchOf E b .action)) (getD D n 0 - 1) m → m < mostNodes
     → (g : ℕ) → Distances (sheetOf K E) g D → Turned (sheetOf K E) g D n (record { branch = i; node = m })
 turned K E ok D n i b m e hn far hi f w h g x =
     let k = getD D n 0 - 2 in

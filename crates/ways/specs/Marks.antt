@@ -7,15 +7,15 @@ use mathlib.Core.List.{List, map}
 use lib.ListN.{length, getD}
 use Rattle.bitml.specs.Lists.{sum}
 use Rattle.bitml.specs.Why.{near}
-use Rattle.tables.specs.Entries.{Entries}
+use Rattle.tables.specs.Entries.{Entries, mostNodes}
 use Rattle.tables.specs.SheetOf.{sheetOf, nodeEntryAt, branchEntryAt, defEntryAt}
 use Rattle.reached.specs.Marks.{flag}
 
 -- D marks `tail` nodes from which steps lead to node g, each with one more than their number. They stand in the queue Q, those with lower
 -- marks first
 pub record Marked (K : ℕ) (E : Entries) (g : ℕ) (D Q : List ℕ) (tail : ℕ) : Type 0 where
-  pub long : length D ≡ 512
-  pub wide : length Q ≡ 512
+  pub long : length D ≡ mostNodes
+  pub wide : length Q ≡ mostNodes
   pub count : sum (map flag D) ≡ tail
   pub low : (m : ℕ) → getD D m 0 ≤ tail
   pub sound : (m : ℕ) → 0 < getD D m 0 → (m < length (E .nodes)) × (near (sheetOf K E) g (getD D m 0 - 1) m ≡ true)

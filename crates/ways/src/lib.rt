@@ -21,7 +21,7 @@ ghost use Prim.Native.Nat.{ℕ, _≤_, _<_};
 ghost use lib.ListN.{length, getD};
 ghost use Rattle.bitml.specs.Runs.{next};
 ghost use Rattle.bitml.specs.Why.{near};
-ghost use Rattle.tables.specs.Entries.{held, people};
+ghost use Rattle.tables.specs.Entries.{held, people, mostNodes};
 ghost use Rattle.tables.specs.SheetOf.{branchEntryAt, partNumbers, branchOf, sheetIn};
 ghost use Rattle.sheets.specs.Ready.{Ready, Indexed, namers, Named};
 ghost use Rattle.ways.specs.Distances.{Distances, Found, Turned};
@@ -148,7 +148,7 @@ fn visit_before(
 pub fn distances(t: &[usize], target: usize, dist: &mut [usize; Sheet::NODES])
     requires { ⌜ Ready (now t) ⌝ }
     requires { ⌜ target < length (held (now t) .nodes) ⌝ }
-    requires { ⌜ (length (now dist) ≡ 512) × ((m : ℕ) → getD (now dist) m 0 ≡ 0) ⌝ }
+    requires { ⌜ (length (now dist) ≡ mostNodes) × ((m : ℕ) → getD (now dist) m 0 ≡ 0) ⌝ }
     ensures { λ _. ⌜ Distances (sheetIn (now (t .entry))) target (now (dist .exit)) ⌝ }
 {
     let mut y = [0usize; NAMERS];
@@ -169,7 +169,7 @@ pub fn distances(t: &[usize], target: usize, dist: &mut [usize; Sheet::NODES])
 fn part_toward(t: &[usize], dist: &[usize; Sheet::NODES], b: usize, k: usize, x: &[usize]) -> usize
     requires { ⌜ Ready (now t) ⌝ }
     requires { ⌜ Indexed (held (now t)) (now x) ⌝ }
-    requires { ⌜ (length (now dist) ≡ 512) × (b < length (held (now t) .branches)) ⌝ }
+    requires { ⌜ (length (now dist) ≡ mostNodes) × (b < length (held (now t) .branches)) ⌝ }
     ensures { λ r. ⌜ Found (now (dist .entry)) (partNumbers (held (now (t .entry))) b) k r ⌝ }
 {
     let count = part_count(t, x, b);
@@ -188,7 +188,7 @@ fn part_toward(t: &[usize], dist: &[usize; Sheet::NODES], b: usize, k: usize, x:
 fn node_toward(t: &[usize], dist: &[usize; Sheet::NODES], b: usize, k: usize, x: &[usize]) -> usize
     requires { ⌜ Ready (now t) ⌝ }
     requires { ⌜ Indexed (held (now t)) (now x) ⌝ }
-    requires { ⌜ (length (now dist) ≡ 512) × (b < length (held (now t) .branches)) ⌝ }
+    requires { ⌜ (length (now dist) ≡ mostNodes) × (b < length (held (now t) .branches)) ⌝ }
     ensures { λ r. ⌜ Found (now (dist .entry)) (next (sheetIn (now (t .entry))) (branchOf (held (now (t .entry))) b .action)) k r ⌝ }
 {
     if branch_kind(t, b) != Action::RENEW {
@@ -206,7 +206,7 @@ fn node_toward(t: &[usize], dist: &[usize; Sheet::NODES], b: usize, k: usize, x:
 pub fn toward(t: &[usize], dist: &[usize; Sheet::NODES], n: usize, x: &[usize]) -> Turn
     requires { ⌜ Ready (now t) ⌝ }
     requires { ⌜ Indexed (held (now t)) (now x) ⌝ }
-    requires { ⌜ (length (now dist) ≡ 512) × (n < length (held (now t) .nodes)) × (1 < getD (now dist) n 0) ⌝ }
+    requires { ⌜ (length (now dist) ≡ mostNodes) × (n < length (held (now t) .nodes)) × (1 < getD (now dist) n 0) ⌝ }
     ensures { λ r. ⌜ ((g : ℕ) → Distances (sheetIn (now (t .entry))) g (now (dist .entry)) → Turned (sheetIn (now (t .entry))) g (now (dist .entry)) n r) ⌝ }
 {
     let k = dist[n] - 1;

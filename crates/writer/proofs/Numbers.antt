@@ -5,7 +5,7 @@ use mathlib.Core.List.{List}
 use lib.ListN.{getD}
 use Rattle.tables.specs.Entries.{nodeIn, branchIn, defIn, listedIn, cellIn, held}
 use Rattle.tables.specs.SheetOf.{nodeEntryAt, branchEntryAt, defEntryAt, listedAt, cellAt}
-use Rattle.tables.proofs.Laws.{firstOf-getD, firstOf-past}
+use Rattle.tables.proofs.Runs.{firstOf-getD, firstOf-past}
 
 module _ (t : List ℕ) (i : ℕ) where
   pub node-there : i < getD t 2 0 → nodeEntryAt (held t) i ≡ nodeIn t i

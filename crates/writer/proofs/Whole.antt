@@ -6,7 +6,7 @@ use native.Mathlib.Omega.{arith}
 use lib.ListN.{length, take, getD, length-append}
 use borrow.Author.Tests.{le-leb, lt-leb}
 use Rattle.tables.specs.Entries.{defIn, held, people}
-use Rattle.tables.proofs.Laws.{firstOf-length}
+use Rattle.tables.proofs.Runs.{firstOf-length}
 use Rattle.texts.specs.Text.{letters, line}
 use Rattle.texts.specs.Wrote.{Wrote}
 use Rattle.texts.proofs.Writing.{wrote-then}

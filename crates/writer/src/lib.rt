@@ -50,7 +50,7 @@ fn weight_of(t: &[usize], i: usize) -> usize
     ensures { λ r. ⌜ r ≡ nodeEntryAt (held (now (t .entry))) i .weight ⌝ }
 {
     if i < t[Sheet::NODES_CELL] {
-        return t[Sheet::NODES_AT + 4 * i + 2];
+        return t[Sheet::NODES_AT + Sheet::NODE_WIDE * i + 2];
     }
     0
 }
@@ -60,7 +60,7 @@ fn count_of(t: &[usize], i: usize) -> usize
     ensures { λ r. ⌜ r ≡ nodeEntryAt (held (now (t .entry))) i .count ⌝ }
 {
     if i < t[Sheet::NODES_CELL] {
-        return t[Sheet::NODES_AT + 4 * i + 3];
+        return t[Sheet::NODES_AT + Sheet::NODE_WIDE * i + 3];
     }
     0
 }
@@ -70,7 +70,7 @@ fn branch_of(t: &[usize], i: usize) -> Drawn
     ensures { λ r. ⌜ (r .signers ≡ branchEntryAt (held (now (t .entry))) i .signers) × (r .opens ≡ branchEntryAt (held (now (t .entry))) i .opens) × (r .kind ≡ branchEntryAt (held (now (t .entry))) i .kind) × (r .arg ≡ branchEntryAt (held (now (t .entry))) i .arg) × (r .count ≡ branchEntryAt (held (now (t .entry))) i .count) ⌝ }
 {
     if i < t[Sheet::BRANCHES_CELL] {
-        let from = Sheet::BRANCHES_AT + 8 * i;
+        let from = Sheet::BRANCHES_AT + Sheet::BRANCH_WIDE * i;
         return Drawn {
             signers: t[from + 1],
             opens: t[from + 2],
@@ -93,7 +93,7 @@ fn secrets_of(t: &[usize], i: usize) -> usize
     ensures { λ r. ⌜ r ≡ defEntryAt (held (now (t .entry))) i .secrets ⌝ }
 {
     if i < t[Sheet::DEFS_CELL] {
-        return t[Sheet::DEFS_AT + 3 * i + 2];
+        return t[Sheet::DEFS_AT + Sheet::DEF_WIDE * i + 2];
     }
     0
 }

@@ -12,7 +12,7 @@ use Rattle.bitml.specs.Answers.{rowLine}
 use Rattle.bitml.proofs.Lists.{all-head, all-tail}
 use Rattle.fields.specs.Field.{lf, anyNumber, fieldLen, packed, packedOf, whenRead, belowAt, betweenAt}
 use Rattle.fields.specs.declared.Got.the-variants as got
-use Rattle.tables.specs.Entries.{Entries}
+use Rattle.tables.specs.Entries.{Entries, mostNodes}
 use Rattle.tables.specs.SheetOf.{nodeEntryAt, defEntryAt}
 use Rattle.lines.specs.Sheet.{accepted, readSheet}
 use Rattle.ranges.proofs.Reading.{sheet-ranged, sheet-inside}
@@ -98,7 +98,7 @@ module _ (s : List ℕ) (K at p : ℕ) (l : p < K) (k : K ≤ 16) (secrets : ℕ
 
 -- ---- rows
 
-module _ (s : List ℕ) (counts : ℕ → ℕ) (nodes : ℕ) (few : nodes ≤ 512) (small : (n : ℕ) → n < nodes → counts n ≤ 16) where
+module _ (s : List ℕ) (counts : ℕ → ℕ) (nodes : ℕ) (few : nodes ≤ mostNodes) (small : (n : ℕ) → n < nodes → counts n ≤ 16) where
   row-reads : (r : Row) (rest : List ℕ) (at : ℕ) → RowFits counts nodes r → drop at s ≡ lineText (rowLine r) ++ rest
       → (z : ℕ) × (at < length s) × (rowAt s counts nodes at ≡ row-line.Row (r .node) (r .branch) (r .rank) z) × (drop z s ≡ rest)
   unfolding rowAt rowNumbersAt whenRead packedOf packed fieldLen field lineText
@@ -171,7 +171,7 @@ module _ (t : List ℕ) (K : ℕ) (E : Entries) (h : readSheet t ≡ accepted K 
       ap (fromSheet s) (sheet-stays (line (letters "make") (p ∷ []))) ∙ ap (fromPart s K E) (make-part s K (length t) p l people (defEntryAt E 0 .secrets) e)
 
   -- `check`,P with rows as they are printed
-  pub check-reads : (R : List Row) → length R ≤ 512 → All (RowFits (λ n. nodeEntryAt E n .count) (length (E .nodes))) R
+  pub check-reads : (R : List Row) → length R ≤ mostRows → All (RowFits (λ n. nodeEntryAt E n .count) (length (E .nodes))) R
       → readRequest (checkRequest t p (linesText (map rowLine R))) ≡ request K E (check p R)
   unfolding checkRequest readRequest fromSheet fromPart fromRows rowsAt Promised
   check-reads R few a =

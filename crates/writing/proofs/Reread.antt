@@ -10,6 +10,7 @@ use borrow.Author.Tests.{eqb-true}
 use Rattle.fields.specs.Field.{spelled, anyNumber, numberAt, wordAt, firstAt, lineEndAt}
 use Rattle.tables.specs.declared.Head.{Head}
 use Rattle.tables.specs.State.{State, withNode, withBranch, withListed, withCell, withDef, nodeEntry, branchEntry, defEntry, among, since}
+use Rattle.tables.specs.Entries.{mostNodes}
 use Rattle.steps.specs.Steps.{Outcome, next, bad, toPlace, goOn, either, andThen, twice, times}
 use Rattle.steps.proofs.Ends.{refused, ends-map, ends-test}
 use Rattle.conditions.specs.Words.{noWord, conditionCell, expressionCell}
@@ -131,7 +132,7 @@ module _ (s : List ℕ) where
   pub a-contract : (lim : Limits) (d : ℕ) → C (λ t. readContract t lim d)
   unfolding readContract contractWith insideAt
   a-contract lim zero b w a = a-word a _ λ v e. a-test s e (eqb v cWord) _ _ refused refused
-  a-contract lim (suc d) b w a = a-word a _ λ v e. a-test s e (eqb v cWord) _ _ (a-test s e (leb 512 (length (a .nodes))) _ _ refused
+  a-contract lim (suc d) b w a = a-word a _ λ v e. a-test s e (eqb v cWord) _ _ (a-test s e (leb mostNodes (length (a .nodes))) _ _ refused
       (a-number (toPlace a e) 16 _ λ n e′. a-times s n (λ t. readBranch t lim (readContract t lim d) (length (a .nodes))) (a-branch (λ t. readContract t lim d) (a-contract lim d) lim (length (a .nodes)))
       (withNode (nodeEntry (lim .def) b w n) (toPlace a e′)))) refused
 

@@ -50,11 +50,12 @@ use Rattle.lent.proofs.Row as T
 use Rattle.lent.proofs.Row.Laws as T′
 use Rattle.replies.specs.declared.Reply.{Reply}
 use Rattle.bitml.specs.Answers.{Answer}
+use Rattle.buffer.specs.Buffer.{placesOfAll, numbersOfOne, numbersOfAll}
 use Rattle.replies.specs.Answer.{replyOf, numbersOf, bytesOf}
 use Rattle.replies.proofs.Reply as R
 use Rattle.replies.proofs.Reply.Laws as R′
-use Rattle.checker.specs.Entry.{placesOfAll, answerTo, placesOf}
-use Rattle.checker.specs.Lending.{numbersOfOne, numbersOfAll, Wide, wantsAll}
+use Rattle.checker.specs.Entry.{answerTo, placesOf}
+use Rattle.checker.specs.Lending.{Wide, wantsAll}
 use Rattle.checker.proofs.Walking.{Few, few-one, few-all, wide-all, reply-typed}
 use Rattle.checker.proofs.wants_all as wants
 use Rattle.checker.proofs.wants_all.Symbol as wants-def

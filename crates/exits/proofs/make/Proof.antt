@@ -2,11 +2,11 @@ use native.Mathlib.Omega.{arith}
 use mathlib.Core.Path.{_≡_, ap, ap₂, _∙_}
 use lib.ListN.{length}
 use Rattle.bitml.specs.Lists.{keep, below}
-use Rattle.buffer.specs.Filled.{filled}
-use Rattle.buffer.proofs.Filled.{cleared-long, cleared-is}
 use Rattle.exits.specs.Made.{rowsBy, stuckBy, firstOr}
 use Rattle.exits.proofs.Buffer.{made-frozen, made-liquid, first-rank, answer-frozen, buffer-frozen, answer-liquid, buffer-liquid}
 use Rattle.tables.specs.Entries.{held, people}
+use Rattle.buffer.specs.Buffer.{filled}
+use Rattle.buffer.proofs.Buffer.{cleared-long, cleared-is}
 use borrow.Author.Needs.{needs}
 use Rattle.exits.proofs.make.Statement.{statement}
 use Rattle.exits.proofs.make.Tie as tie

@@ -3,7 +3,7 @@ use Prim.Native.Nat.{_≤_, _-_}
 use native.Mathlib.Omega.{arith}
 use mathlib.Core.Path.{_≡_, ap, _∙_}
 use lib.ListN.{length}
-use Rattle.buffer.specs.Filled.{filled}
+use Rattle.buffer.specs.Buffer.{filled}
 use Rattle.exits.specs.Made.{rowsBy}
 use Rattle.exits.proofs.Buffer.{Put, put-none, put-step}
 use Rattle.exits.proofs.put_rows.Statement.{statement}
@@ -18,26 +18,26 @@ abbrev μ-loop : tie.MeasureT-loop
 loop-holds : tie.Need-loop-holds Inv-loop μ-loop
 loop-holds c = (omega arith, put-none _ _ _ _ (c .before .pre .1))
 
-mul-put-row : tie.Need-mul-put-row Inv-loop μ-loop
-mul-put-row c = search needs
+mul-put-marked : tie.Need-mul-put-marked Inv-loop μ-loop
+mul-put-marked c = search needs
 
-element-copy-out-put-row : tie.Need-element-copy-out-put-row Inv-loop μ-loop
-element-copy-out-put-row c = search needs
+element-copy-out-put-marked : tie.Need-element-copy-out-put-marked Inv-loop μ-loop
+element-copy-out-put-marked c = search needs
 
-mul-put-row-2 : tie.Need-mul-put-row-2 Inv-loop μ-loop
-mul-put-row-2 c = search needs
+mul-put-marked-2 : tie.Need-mul-put-marked-2 Inv-loop μ-loop
+mul-put-marked-2 c = search needs
 
-element-copy-out-put-row-2 : tie.Need-element-copy-out-put-row-2 Inv-loop μ-loop
-element-copy-out-put-row-2 c = search needs
+element-copy-out-put-marked-2 : tie.Need-element-copy-out-put-marked-2 Inv-loop μ-loop
+element-copy-out-put-marked-2 c = search needs
 
-mul-put-row-3 : tie.Need-mul-put-row-3 Inv-loop μ-loop
-mul-put-row-3 c = search needs
+mul-put-marked-3 : tie.Need-mul-put-marked-3 Inv-loop μ-loop
+mul-put-marked-3 c = search needs
 
-element-copy-out-put-row-3 : tie.Need-element-copy-out-put-row-3 Inv-loop μ-loop
-element-copy-out-put-row-3 c = search needs
+element-copy-out-put-marked-3 : tie.Need-element-copy-out-put-marked-3 Inv-loop μ-loop
+element-copy-out-put-marked-3 c = search needs
 
-put-row-requires : tie.Need-put-row-requires Inv-loop μ-loop
-put-row-requires c κs = let l = c .before .before .before .before .before .loop in omega (arith, l .inv .1 .few, l .inv .1 .long)
+put-marked-requires : tie.Need-put-marked-requires Inv-loop μ-loop
+put-marked-requires c κs = let l = c .before .before .before .before .before .loop in omega (arith, l .inv .1 .few, l .inv .1 .long)
 
 add-i : tie.Need-add-i Inv-loop μ-loop
 add-i c = search needs
@@ -46,7 +46,7 @@ loop-less : tie.Need-loop-less Inv-loop μ-loop
 loop-less c = search needs
 
 loop-again : tie.Need-loop-again Inv-loop μ-loop
-loop-again c = let a = c .before .before .before .before .before .before .before .before .before .before .args in let l = c .before .before .before .before .before .before .before .before .loop in let e = c .before .before .put-row .ensures in
+loop-again c = let a = c .before .before .before .before .before .before .before .before .before .before .args in let l = c .before .before .before .before .before .before .before .before .loop in let e = c .before .before .put-marked .ensures in
     (omega arith, put-step (a .marks .now) (a .ranks .now) (a .branches .now) (l .rows) _ (length (a .rows .now)) (l .i) (l .j) _ (l .inv .1) (omega (arith, l .inv .1 .few)) (e .0) (e .1))
 
 same-length : tie.Need-same-length Inv-loop μ-loop
@@ -66,13 +66,13 @@ put-rows-spec =
     Inv-loop
     μ-loop
     loop-holds
-    mul-put-row
-    element-copy-out-put-row
-    mul-put-row-2
-    element-copy-out-put-row-2
-    mul-put-row-3
-    element-copy-out-put-row-3
-    put-row-requires
+    mul-put-marked
+    element-copy-out-put-marked
+    mul-put-marked-2
+    element-copy-out-put-marked-2
+    mul-put-marked-3
+    element-copy-out-put-marked-3
+    put-marked-requires
     add-i
     loop-less
     loop-again

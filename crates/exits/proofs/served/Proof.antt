@@ -3,8 +3,8 @@ use Rattle.exits.proofs.Costing.{ranked-at, served-bad, served-good, se
 use Rattle.exits.specs.Costs.{ranksAt, served}
 use Rattle.tables.proofs.SheetOf.{parts-few}
 use Rattle.tables.specs.SheetOf.{partNumbers, partNumber, partCount}
-use Rattle.tables.specs.Entries.{held}
 use Rattle.bitml.specs.Lists.{upFrom}
+use Rattle.tables.specs.Entries.{held, mostNodes}
 use lib.ListN.{getD}
 use mathlib.Core.List.{map}
 use mathlib.Core.Path.{_≡_, sym, ap, _∙_}
@@ -14,7 +14,7 @@ use Rattle.exits.proofs.served.Statement.{statement}
 use Rattle.exits.proofs.served.Tie as tie
 
 abbrev Inv-loop : tie.InvT-loop
-Inv-loop t ranks b x count acc₀ i₀ acc i = (i ≤ partCount (held t) b) × (acc ≤ 1 + 512 * i) × (served acc (ranksAt ranks (map (partNumber (held t) b) (upFrom i (partCount (held t) b - i)))) ≡ served 1 (ranksAt ranks (partNumbers (held t) b)))
+Inv-loop t ranks b x count acc₀ i₀ acc i = (i ≤ partCount (held t) b) × (acc ≤ 1 + mostNodes * i) × (served acc (ranksAt ranks (map (partNumber (held t) b) (upFrom i (partCount (held t) b - i)))) ≡ served 1 (ranksAt ranks (partNumbers (held t) b)))
 
 abbrev μ-loop : tie.MeasureT-loop
 μ-loop t ranks b x count acc₀ i₀ acc i = count - i

@@ -52,6 +52,7 @@ use denote.Triple.Clauses.{ensured, lasts}
 use denote.Triple.Table.{entered, cited}
 use denote.Triple.Walked.{says, Stays, stay-none-slice, stay-slice, walkOf, Walks, ends-at, walked, goes-none-slice, goes-slice, walk-meets}
 use denote.Exit.{yes}
+use Rattle.buffer.specs.Buffer.{rowWide}
 use Rattle.lent.specs.declared.Row.{Row}
 use Rattle.lent.specs.Structs.{noRow, structAt, reachedOf, structs}
 use Rattle.lent.proofs.Structs.{struct-none, written, written-length, written-next, written-all}
@@ -94,10 +95,14 @@ slice₀ = sliceTy (tyRef (named 0) imm word)
 abbrev slice₁ : Ty
 slice₁ = sliceTy (tyRef (named 1) mut (pointee (T.the-row .written)))
 
+-- a row's bytes
+abbrev size : ℕ
+size = 8 * rowWide
+
 -- `rows[i] = ..; i += 1`: the row is local r, and s and p are the offset and the place that are computed
 abbrev puts : (r s p : ℕ) → Body
 puts r s p =
-    seq (assign (place s []) (op2 (mul unsigned) (copy (place 4 [])) (int w64 24)))
+    seq (assign (place s []) (op2 (mul unsigned) (copy (place 4 [])) (int w64 size)))
     (seq (assign (place p []) (op2 offset (copy (place 2 (field 0 ∷ []))) (copy (place s []))))
     (seq (assign (place p (deref T′.mir ∷ [])) (rvOpd (copy (place r []))))
     (assign (place 4 []) (op2 (add unsigned) (copy (place 4 [])) (int w64 1)))))
@@ -162,7 +167,7 @@ module _ {M : Type 1} (𝓤 : URA M) (H : Heap 𝓤) (A : Atoms 𝓤) (W : Given
 
   -- how many places the numbers reach into
   abbrev Reach : ℕ → Type 0
-  Reach m = (m ≤ n) × (m < n → length xs ≤ 3 * m)
+  Reach m = (m ≤ n) × (m < n → length xs ≤ rowWide * m)
 
   abbrev Said′ : ℕ → SProp 𝓤
   Said′ m = ensured 𝓤 H A reached.ended (reached.clauses 𝓤 H A at-mem run) (κ₀, tt) (ref₀, (n, tt)) tt m
@@ -238,8 +243,8 @@ module _ {M : Type 1} (𝓤 : URA M) (H : Heap 𝓤) (A : Atoms 𝓤) (W : Given
       abbrev zs : List Row
       zs = written xs ys i
 
-      scaled : Fits w64 (i * 24)
-      scaled = scaled-fits i n 24 less (gn .1)
+      scaled : Fits w64 (i * size)
+      scaled = scaled-fits i n size less (gn .1)
 
       next-fits : Fits w64 (i + 1)
       next-fits = record { fits = lt-of-le-of-lt (add-one-le less) (gn .0) }
@@ -256,7 +261,7 @@ module _ {M : Type 1} (𝓤 : URA M) (H : Heap 𝓤) (A : Atoms 𝓤) (W : Given
       stores ty after =
           assigns ! (bin ! (load ! (from ! (stop !)) (look ! 6 refl)) (lit ! tt) scaled) (found ! (ty .1) (stop !)) (init ! 4 refl (tt, scaled)) $
           assigns ! (bin ! (load ! (from ! (fld ! refl (stop !))) (look-in ! 7 (sub ! 0 refl (whole !)))) (load ! (found ! (ty .1) (stop !)) (look ! 4 refl)) tt) (found ! (ty .2) (stop !)) (init ! 3 refl (tt, tt)) $
-          rewrite ! 3 (λ (m : ℕ). ‵ (fat fullShare tyPtr (block p) 0 (vptr b m))) (sym (place-is 24 o i)) refl $
+          rewrite ! 3 (λ (m : ℕ). ‵ (fat fullShare tyPtr (block p) 0 (vptr b m))) (sym (place-is size o i)) refl $
           move ! (2 ∷ 1 ∷ 0 ∷ []) $ opens-slice ! tt T.the-row zs b o $
           elem-out ! T.the-row (Is T.the-row) (shows 𝓤 H A T.the-row) (LL.vals T.the-type T′.the-laws) (LL.tells T.the-type T′.the-laws) fullShare zs i noRow b o inside (λ _.
           assigns ! (of-opd ! (load ! (found ! (ty .0) (stop !)) (look ! 8 refl))) (found ! (ty .2) (hop ! (look ! 6 refl) (stop !))) (store-raw ! 0 refl (typed r w is)) $
@@ -306,7 +311,7 @@ module _ {M : Type 1} (𝓤 : URA M) (H : Heap 𝓤) (A : Atoms 𝓤) (W : Given
           within : ltb (i .0) n ≡ true → i .0 < n
           within less = ltb-true (i .0) n less
 
-          past : ltb (i .0) n ≡ true → length xs ≤ 3 * i .0
+          past : ltb (i .0) n ≡ true → length xs ≤ rowWide * i .0
           past less = omega (arith, i .1, reach .1 (omega (arith, within less, i .1)))
 
       -- what they reach: each row is asked for

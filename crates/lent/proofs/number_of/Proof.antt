@@ -4,11 +4,12 @@ use Prim.Native.Nat.{_+_, _*_}
 use lib.ListN.{List·getD-eq-default}
 use denote.Ref.{now}
 use borrow.Author.Needs.{needs}
+use Rattle.buffer.specs.Buffer.{rowWide}
 use Rattle.lent.proofs.number_of.Statement.{statement}
 use Rattle.lent.proofs.number_of.Tie as tie
 
 returns : tie.Need-returns
-returns c = let a = c .before .args in sym (List·getD-eq-default (now (a .numbers)) 0 {n = 3 * a .i + a .k} (omega arith))
+returns c = let a = c .before .args in sym (List·getD-eq-default (now (a .numbers)) 0 {n = rowWide * a .i + a .k} (omega arith))
 
 mul-first : tie.Need-mul-first
 mul-first c = search needs
@@ -17,7 +18,7 @@ sub-if2 : tie.Need-sub-if2
 sub-if2 c = search needs
 
 returns-2 : tie.Need-returns-2
-returns-2 c = let a = c .before .before .args in sym (List·getD-eq-default (now (a .numbers)) 0 {n = 3 * a .i + a .k} (omega arith))
+returns-2 c = let a = c .before .before .args in sym (List·getD-eq-default (now (a .numbers)) 0 {n = rowWide * a .i + a .k} (omega arith))
 
 add-result : tie.Need-add-result
 add-result c = search needs

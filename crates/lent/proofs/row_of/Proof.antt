@@ -1,40 +1,21 @@
-use mathlib.Core.Path.{refl}
-use borrow.Author.Needs.{needs}
-use Rattle.lent.specs.Structs.{structAt}
+use Rattle.lent.specs.Structs.{structOf, structAt}
 use Rattle.lent.proofs.Structs.{struct-is}
+use borrow.Author.Needs.{needs}
 use Rattle.lent.proofs.row_of.Statement.{statement}
 use Rattle.lent.proofs.row_of.Tie as tie
 
-mul-first : tie.Need-mul-first
-mul-first c = search needs
+row-node-requires : tie.Need-row-node-requires
+row-node-requires c κs = search needs
 
-mul-t10 : tie.Need-mul-t10
-mul-t10 c = search needs
+row-branch-requires : tie.Need-row-branch-requires
+row-branch-requires c κs = search needs
 
-shared-slice-read-t12 : tie.Need-shared-slice-read-t12
-shared-slice-read-t12 c = search needs
-
-add-t13 : tie.Need-add-t13
-add-t13 c = search needs
-
-mul-t14 : tie.Need-mul-t14
-mul-t14 c = search needs
-
-shared-slice-read-t16 : tie.Need-shared-slice-read-t16
-shared-slice-read-t16 c = search needs
-
-add-t17 : tie.Need-add-t17
-add-t17 c = search needs
-
-mul-t18 : tie.Need-mul-t18
-mul-t18 c = search needs
-
-shared-slice-read-t20 : tie.Need-shared-slice-read-t20
-shared-slice-read-t20 c = search needs
+row-rank-requires : tie.Need-row-rank-requires
+row-rank-requires c κs = search needs
 
 returns : tie.Need-returns
-unfolding structAt
-returns c = refl
+unfolding structAt structOf
+returns c = rw (c .before .before .row-node .ensures, c .before .row-branch .ensures, c .row-rank .ensures)
 
 number-of-requires : tie.Need-number-of-requires
 number-of-requires c κs = search needs
@@ -52,15 +33,9 @@ pub row-of-spec : {M : Type 1} → statement M
 row-of-spec =
     tie.close
     (tie.spec
-    mul-first
-    mul-t10
-    shared-slice-read-t12
-    add-t13
-    mul-t14
-    shared-slice-read-t16
-    add-t17
-    mul-t18
-    shared-slice-read-t20
+    row-node-requires
+    row-branch-requires
+    row-rank-requires
     returns
     number-of-requires
     number-of-requires-2

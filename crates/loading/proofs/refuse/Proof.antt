@@ -1,7 +1,7 @@
 use mathlib.Core.Path.{sym, _∙_}
 use lib.ListN.{length}
-use Rattle.buffer.proofs.Filled.{filled-none}
 use borrow.Author.Needs.{needs}
+use Rattle.buffer.proofs.Buffer.{filled-none}
 use Rattle.loading.proofs.refuse.Statement.{statement}
 use Rattle.loading.proofs.refuse.Tie as tie
 

@@ -1,4 +1,3 @@
-use Rattle.requests.specs.Rows.{rowIn, rowsOf}
 use borrow.Author.Needs.{needs}
 use native.Mathlib.Omega.{arith}
 use Prim.Native.Nat.{_≤_, _<_, _+_, _-_}
@@ -6,8 +5,9 @@ use mathlib.Core.Path.{_≡_, refl, sym, ap, ap₂, _∙_, subst}
 use mathlib.Core.List.{[]}
 use lib.ListN.{drop}
 use Rattle.bitml.specs.Rows.{Fault, orElse, repeated, falling}
+use Rattle.buffer.specs.Buffer.{rowIn, rowsOf}
+use Rattle.buffer.proofs.Buffer.{rows-none}
 use Rattle.order.specs.Nodes.{Known, orderFault}
-use Rattle.requests.proofs.Laws.{rows-none}
 use Rattle.order.proofs.Ranks.{known-next, twice-miss, twice-start}
 use Rattle.order.proofs.Order.{Topped, topped-none, topped-next, fall-miss, order-hit, order-end, some-fault}
 use Rattle.order.proofs.index.Statement.{statement}
@@ -25,14 +25,8 @@ loop-holds : tie.Need-loop-holds Inv-loop μ-loop
 loop-holds c = let a = c .before .args in let A = c .before .pre .1 in
     (omega arith, rw (rows-none (a .rows .now)) A, topped-none (a .ranks .now) A, twice-start (a .rows .now) (a .n), refl)
 
-mul-m : tie.Need-mul-m Inv-loop μ-loop
-mul-m c = omega (arith, c .before .before .before .pre .0 .few)
-
-mul-m-2 : tie.Need-mul-m-2 Inv-loop μ-loop
-mul-m-2 c = omega (arith, c .before .before .before .pre .0 .few)
-
-shared-slice-read-m : tie.Need-shared-slice-read-m Inv-loop μ-loop
-shared-slice-read-m c = omega (arith, c .before .before .before .before .pre .0 .long)
+row-node-requires : tie.Need-row-node-requires Inv-loop μ-loop
+row-node-requires c κs = omega (arith, c .before .before .before .pre .0 .long)
 
 unordered-requires : tie.Need-unordered-requires Inv-loop μ-loop
 unordered-requires c κs = (c .before .before .before .before .before .before .pre .0, (omega arith, c .before .before .before .before .loop .inv .1))
@@ -40,29 +34,20 @@ unordered-requires c κs = (c .before .before .before .before .before .before .p
 returns : tie.Need-returns Inv-loop μ-loop
 unfolding orderFault
 returns c = let a = c .before .before .before .before .before .before .before .args in let l = c .before .before .before .before .before .loop in let v = l .inv in let n = a .n in let h : l .i < n = omega arith in
-    let e = order-hit (a .rows .now) (l .i) n h (l .ranks) (l .above) (c .before .before .before .before .before .before .before .pre .0) (v .1) (v .2) (c .before .before .if1 .taken) in
+    let e = order-hit (a .rows .now) (l .i) n h (l .ranks) (l .above) (c .before .before .before .before .before .before .before .pre .0) (v .1) (v .2) (rw (c .before .before .before .row-node .ensures) at (c .before .before .if1 .taken)) in
     (c .unordered .ensures ∙ e ∙ ap₂ orElse (v .3) (v .4), λ z. absurd (some-fault (repeated (l .i + 1) (rowsOf (l .i) (a .rows .now)) (drop (l .i) (rowsOf n (a .rows .now)))) (l .i + 1) (sym (ap (λ (f : Fault). f .number) (c .unordered .ensures)) ∙ z)))
 
+row-rank-requires : tie.Need-row-rank-requires Inv-loop μ-loop
+row-rank-requires c κs = omega (arith, c .before .before .before .before .before .pre .0 .long)
+
 mul-ranks : tie.Need-mul-ranks Inv-loop μ-loop
-mul-ranks c = omega (arith, c .before .before .before .before .before .pre .0 .few)
-
-add-ranks : tie.Need-add-ranks Inv-loop μ-loop
-add-ranks c = omega (arith, c .before .before .before .before .before .pre .0 .few)
-
-mul-ranks-2 : tie.Need-mul-ranks-2 Inv-loop μ-loop
-mul-ranks-2 c = omega (arith, c .before .before .before .before .before .pre .0 .few)
-
-shared-slice-read-ranks : tie.Need-shared-slice-read-ranks Inv-loop μ-loop
-shared-slice-read-ranks c = omega (arith, c .before .before .before .before .before .before .pre .0 .long)
-
-mul-ranks-3 : tie.Need-mul-ranks-3 Inv-loop μ-loop
-mul-ranks-3 c = omega (arith, c .before .before .before .before .before .before .pre .0 .node (c .before .before .before .before .loop .i) (omega arith))
+mul-ranks c = omega (arith, c .before .before .row-node .ensures, c .before .before .before .before .before .before .pre .0 .node (c .before .before .before .before .loop .i) (omega arith))
 
 element-write-ranks : tie.Need-element-write-ranks Inv-loop μ-loop
-element-write-ranks c = omega (arith, c .before .before .before .before .before .before .pre .0 .node (c .before .before .before .before .loop .i) (omega arith))
+element-write-ranks c = omega (arith, c .before .before .row-node .ensures, c .before .before .before .before .before .before .pre .0 .node (c .before .before .before .before .loop .i) (omega arith))
 
 add-above : tie.Need-add-above Inv-loop μ-loop
-add-above c = omega (arith, c .before .before .before .before .before .before .pre .0 .node (c .before .before .before .before .loop .i) (omega arith))
+add-above c = omega (arith, c .before .before .row-node .ensures, c .before .before .before .before .before .before .pre .0 .node (c .before .before .before .before .loop .i) (omega arith))
 
 add-i : tie.Need-add-i Inv-loop μ-loop
 add-i c = omega (arith, c .before .before .before .before .before .before .pre .0 .few)
@@ -72,8 +57,9 @@ loop-less c = search needs
 
 loop-again : tie.Need-loop-again Inv-loop μ-loop
 loop-again c = let a = c .before .before .before .before .before .before .args in let l = c .before .before .before .before .loop in let v = l .inv in let p = c .before .before .before .before .before .before .pre .0 in let h : l .i < a .n = omega arith in
-    let low : l .above ≤ rowIn (a .rows .now) (l .i) .node = omega arith in
-    let free = v .2 .rest _ low in (
+    let low : l .above ≤ rowIn (a .rows .now) (l .i) .node = omega (arith, c .before .before .row-node .ensures) in
+    let free = v .2 .rest _ low in
+    rw (c .row-rank .ensures, c .before .before .row-node .ensures) (
       omega arith,
       known-next (a .rows .now) (l .ranks) (l .i) (a .n) p (v .1) h free,
       topped-next (l .above) (l .ranks) _ _ (v .2) (omega (arith, v .1 .long, p .node (l .i) h)) (p .some (l .i) h) low,
@@ -93,16 +79,11 @@ index-spec =
     Inv-loop
     μ-loop
     loop-holds
-    mul-m
-    mul-m-2
-    shared-slice-read-m
+    row-node-requires
     unordered-requires
     returns
+    row-rank-requires
     mul-ranks
-    add-ranks
-    mul-ranks-2
-    shared-slice-read-ranks
-    mul-ranks-3
     element-write-ranks
     add-above
     add-i

@@ -1,4 +1,3 @@
-use Rattle.buffer.proofs.Filled.{cleared-long}
 use Prim.Native.Nat.{_+_}
 use mathlib.Core.Path.{refl, sym, ap, _∙_}
 use native.Mathlib.Omega.{arith}
@@ -6,6 +5,7 @@ use lib.ListN.{length}
 use Rattle.tables.specs.Entries.{held, people}
 use Rattle.tables.specs.SheetOf.{sheetIn, defEntryAt}
 use Rattle.tables.proofs.SheetOf.{defs-are}
+use Rattle.buffer.proofs.Buffer.{cleared-long}
 use Rattle.replies.proofs.Giving.{gives-as}
 use Rattle.ledger.specs.Values.{valuesOf}
 use Rattle.plays.specs.Events.{eventsOf}

@@ -6,7 +6,7 @@ use lib.ListN.{length, getD}
 use borrow.Author.Needs.{needs}
 use Rattle.bitml.specs.Why.{stepsTo}
 use Rattle.bitml.specs.Answers.{stepLine}
-use Rattle.tables.specs.Entries.{held, people}
+use Rattle.tables.specs.Entries.{held, people, mostNodes}
 use Rattle.tables.specs.SheetOf.{sheetIn}
 use Rattle.tables.proofs.SheetOf.{nodes-are}
 use Rattle.reached.proofs.Queue.{no-marks}
@@ -18,7 +18,7 @@ use Rattle.reasons.proofs.put_way.Statement.{statement}
 use Rattle.reasons.proofs.put_way.Tie as tie
 
 abbrev Inv-loop : tie.InvT-loop
-Inv-loop t target text₀ at x dist e₀ n₀ text e n = (n < length (held t .nodes)) × (0 < getD dist n 0) × (e + 80 * getD dist n 0 ≤ at + 80 * 513) × (length text ≡ length text₀) × Coming text₀ at (linesText (map stepLine (stepsTo (sheetIn t) target))) text e (wayFrom (sheetIn t) target dist n)
+Inv-loop t target text₀ at x dist e₀ n₀ text e n = (n < length (held t .nodes)) × (0 < getD dist n 0) × (e + 80 * getD dist n 0 ≤ at + 80 * (mostNodes + 1)) × (length text ≡ length text₀) × Coming text₀ at (linesText (map stepLine (stepsTo (sheetIn t) target))) text e (wayFrom (sheetIn t) target dist n)
 
 abbrev μ-loop : tie.MeasureT-loop
 μ-loop t target text₀ at x dist e₀ n₀ text e n = getD dist n 0

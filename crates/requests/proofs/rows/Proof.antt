@@ -1,12 +1,14 @@
-use Prim.Native.Nat.{_-_, _≤_, _<_}
+use Prim.Native.Nat.{_+_, _-_, _≤_, _<_}
 use mathlib.Core.List.{[]}
-use mathlib.Core.Path.{_≡_, _∙_, refl}
+use mathlib.Core.Path.{_≡_, _∙_, refl, ap}
 use native.Mathlib.Omega.{arith}
 use lib.ListN.{length}
 use borrow.Author.Needs.{needs}
-use Rattle.requests.proofs.Laws.{rows-on, rows-bad, rest-more, rows-end, rows-full, rows-length, holds}
-use Rattle.requests.specs.Rows.{countIn, pastRows, mostRows, rowsOf, rowsFrom, rowsAt}
+use Rattle.requests.proofs.Laws.{rows-on, rows-bad, rows-end, rows-full, holds}
+use Rattle.requests.specs.Rows.{countIn, mostRows, rowsFrom, rowsAt}
 use Rattle.tables.specs.Entries.{firstOf}
+use Rattle.buffer.specs.Buffer.{pastRows, rowsOf}
+use Rattle.buffer.proofs.Buffer.{row-more, row-rest, rest-more, rows-length}
 use Rattle.requests.proofs.rows.Statement.{statement}
 use Rattle.requests.proofs.rows.Tie as tie
 
@@ -46,11 +48,11 @@ loop-less : tie.Need-loop-less Inv-loop μ-loop
 loop-less c = omega arith
 
 loop-again : tie.Need-loop-again Inv-loop μ-loop
-loop-again c = let l : c .before .before .before .before .before .before .before .before .before .before .loop .i < mostRows = omega arith in (
+loop-again c = let l : c .before .before .before .before .before .before .before .before .before .before .loop .i < mostRows = omega arith in let u = c .before .before .before .before .before .before .before .before .before .before .loop .buffer in let i = c .before .before .before .before .before .before .before .before .before .before .loop .i in (
   omega arith,
   c .before .before .put-row .kept .0 ∙ c .before .before .before .before .before .before .before .before .before .before .loop .inv .1,
-  c .before .before .put-row .ensures .1 ∙ rest-more _ _ _ (c .before .before .before .before .before .before .before .before .before .before .loop .inv .2),
-  rw (c .before .before .put-row .ensures .0) (rows-on _ _ _ _ _ _ _ l (c .before .before .before .before .before .before .before .before .before .loop-test .taken) (c .before .before .before .before .before .before .before .row-line .ensures) _ _ _ _ (c .before .before .before .before .before .g .given .1) ∙ c .before .before .before .before .before .before .before .before .before .before .loop .inv .3),
+  ap (pastRows (i + 1)) (c .before .before .put-row .ensures) ∙ row-rest u i _ ∙ rest-more _ _ _ (c .before .before .before .before .before .before .before .before .before .before .loop .inv .2),
+  rw (c .before .before .put-row .ensures, row-more u i _ (omega arith)) (rows-on _ _ _ _ _ _ _ l (c .before .before .before .before .before .before .before .before .before .loop-test .taken) (c .before .before .before .before .before .before .before .row-line .ensures) _ _ _ _ (c .before .before .before .before .before .g .given .1) ∙ c .before .before .before .before .before .before .before .before .before .before .loop .inv .3),
 )
 
 enum-known-g-2 : tie.Need-enum-known-g-2 Inv-loop μ-loop

@@ -1,10 +1,10 @@
-use Rattle.requests.specs.Rows.{rowsOf}
 use borrow.Author.Needs.{needs}
 use mathlib.Core.Path.{ap, _∙_}
+use Rattle.buffer.specs.Buffer.{rowsOf}
+use Rattle.buffer.proofs.Buffer.{rows-length}
 use Rattle.order.specs.Nodes.{asFault}
 use Rattle.order.proofs.Ranks.{known-none}
 use Rattle.rows.specs.Given.{answerOf}
-use Rattle.requests.proofs.Laws.{rows-length}
 use Rattle.rows.proofs.Judged.{answer-refused, answer-liquid}
 use Rattle.rows.proofs.check.Statement.{statement}
 use Rattle.rows.proofs.check.Tie as tie

@@ -1,10 +1,10 @@
-use Rattle.requests.specs.Rows.{rowsOf}
 use native.Mathlib.Omega.{arith}
 use mathlib.Core.Path.{sym, ap, _∙_}
 use lib.ListN.{getD}
 use Rattle.bitml.specs.Rows.{Fault}
 use Rattle.tables.specs.Entries.{held, people}
 use Rattle.tables.specs.SheetOf.{sheetIn}
+use Rattle.buffer.specs.Buffer.{rowsOf}
 use Rattle.order.specs.Nodes.{asFault}
 use Rattle.rows.proofs.Promised.{rows-small}
 use Rattle.rows.proofs.Judged.{check-order, check-root, check-rest}

@@ -6,9 +6,6 @@ use Rattle.rows.proofs.kept.Tie as tie
 enum-told : tie.Need-enum-told
 enum-told c = search needs
 
-mul-result : tie.Need-mul-result
-mul-result c = search needs
-
 enum-told-2 : tie.Need-enum-told-2
 enum-told-2 c = search needs
 
@@ -21,4 +18,4 @@ unfolding keptOf
 returns-2 c = rw (c .enum-told2 .given .1)
 
 pub kept-spec : {M : Type 1} → statement M
-kept-spec = tie.close (tie.spec enum-told mul-result enum-told-2 returns returns-2)
+kept-spec = tie.close (tie.spec enum-told enum-told-2 returns returns-2)

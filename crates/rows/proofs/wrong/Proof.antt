@@ -1,10 +1,10 @@
-use Rattle.requests.specs.Rows.{row}
 use borrow.Author.Needs.{needs}
 use native.Mathlib.Omega.{arith}
 use mathlib.Core.Path.{sym, _∙_}
 use borrow.Author.Tests.{not-true, not-false}
 use Rattle.tables.specs.Entries.{held, people}
 use Rattle.tables.proofs.SheetOf.{branch-small}
+use Rattle.buffer.specs.Buffer.{row}
 use Rattle.rows.proofs.Judged.{fault-missing, fault-other, fault-low, fault-none}
 use Rattle.rows.proofs.wrong.Statement.{statement}
 use Rattle.rows.proofs.wrong.Tie as tie

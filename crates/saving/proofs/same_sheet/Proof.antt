@@ -1,7 +1,8 @@
 use mathlib.Core.Path.{sym, _∙_}
+use native.Mathlib.Omega.{arith}
 use borrow.Author.Tests.{not-true, not-false}
 use Rattle.bitml.proofs.Lists.{and-true, and-false}
-use Rattle.saving.proofs.Comparing.{header-no, sections-same}
+use Rattle.saving.proofs.Comparing.{header-no, cells-inside, sections-same}
 use borrow.Author.Needs.{needs}
 use Rattle.saving.proofs.same_sheet.Statement.{statement}
 use Rattle.saving.proofs.same_sheet.Tie as tie
@@ -61,7 +62,9 @@ shared-slice-read-same-cells-5 : tie.Need-shared-slice-read-same-cells-5
 shared-slice-read-same-cells-5 c = search needs
 
 same-cells-requires-6 : tie.Need-same-cells-requires-6
-same-cells-requires-6 c κs = search needs
+same-cells-requires-6 c κs =
+    let h = sym (c .before .before .before .before .before .before .before .before .before .before .before .before .before .before .same-cells .ensures) ∙ not-false _ (c .before .before .before .before .before .before .before .before .before .before .before .before .before .if1 .left) in
+    (omega (arith, cells-inside _ _ h (c .before .before .before .before .before .before .before .before .before .before .before .before .before .before .before .before .before .pre .0)), search needs)
 
 returns-6 : tie.Need-returns-6
 returns-6 c = c .same-cells6 .ensures ∙ sym (sections-same _ _ (sym (c .before .before .before .before .before .before .before .before .before .before .before .before .before .before .before .same-cells .ensures) ∙ not-false _ (c .before .before .before .before .before .before .before .before .before .before .before .before .before .before .if1 .left)) ∙ and-true _ _ (sym (c .before .before .before .before .before .before .before .before .before .before .before .before .same-cells2 .ensures) ∙ not-false _ (c .before .before .before .before .before .before .before .before .before .before .before .if2 .left)) ∙ and-true _ _ (sym (c .before .before .before .before .before .before .before .before .before .same-cells3 .ensures) ∙ not-false _ (c .before .before .before .before .before .before .before .before .if3 .left)) ∙ and-true _ _ (sym (c .before .before .before .before .before .before .same-cells4 .ensures) ∙ not-false _ (c .before .before .before .before .before .if4 .left)) ∙ and-true _ _ (sym (c .before .before .before .same-cells5 .ensures) ∙ not-false _ (c .before .before .if5 .left)))

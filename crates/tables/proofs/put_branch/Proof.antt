@@ -1,4 +1,6 @@
-use Rattle.tables.proofs.Laws.{run-8, put-branch}
+use Rattle.tables.proofs.Runs.{run-8}
+use Rattle.tables.proofs.Laws.{put-branch}
+use Rattle.tables.specs.Entries.{branchCells}
 use mathlib.Core.Path.{refl}
 use lib.ListN.{length-set}
 use native.Mathlib.Omega.{arith}
@@ -88,6 +90,7 @@ same-length : tie.Need-same-length
 same-length c = search needs
 
 returns : tie.Need-returns
+unfolding branchCells
 returns c = (refl, rw run-8 (put-branch _ _ _ _ (c .before .before .pre .1 .0) (c .before .before .pre .1 .1) (c .before .before .pre .0)))
 
 pub put-branch-spec : {M : Type 1} → statement M

@@ -1,4 +1,6 @@
-use Rattle.tables.proofs.Laws.{run-3, put-def}
+use Rattle.tables.proofs.Runs.{run-3}
+use Rattle.tables.proofs.Laws.{put-def}
+use Rattle.tables.specs.Entries.{defCells}
 use mathlib.Core.Path.{refl}
 use lib.ListN.{length-set}
 use native.Mathlib.Omega.{arith}
@@ -43,6 +45,7 @@ same-length : tie.Need-same-length
 same-length c = search needs
 
 returns : tie.Need-returns
+unfolding defCells
 returns c = (refl, rw run-3 (put-def _ _ _ _ _ (c .before .before .pre .1 .0) (c .before .before .pre .1 .1) (c .before .before .pre .0)))
 
 pub put-def-spec : {M : Type 1} → statement M

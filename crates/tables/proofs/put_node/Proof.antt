@@ -1,4 +1,6 @@
-use Rattle.tables.proofs.Laws.{run-4, put-node}
+use Rattle.tables.proofs.Runs.{run-4}
+use Rattle.tables.proofs.Laws.{put-node}
+use Rattle.tables.specs.Entries.{nodeCells}
 use mathlib.Core.Path.{refl}
 use lib.ListN.{length-set}
 use native.Mathlib.Omega.{arith}
@@ -52,6 +54,7 @@ same-length : tie.Need-same-length
 same-length c = search needs
 
 returns : tie.Need-returns
+unfolding nodeCells
 returns c = (refl, rw run-4 (put-node _ _ _ _ _ _ (c .before .before .pre .1 .0) (c .before .before .pre .1 .1) (c .before .before .pre .0)))
 
 pub put-node-spec : {M : Type 1} → statement M

@@ -1,5 +1,5 @@
 use borrow.Author.Needs.{needs}
-use Prim.Native.Nat.{_+_, _-_, _*_, _≤_}
+use Prim.Native.Nat.{_-_, _≤_}
 use native.Mathlib.Omega.{arith}
 use mathlib.Core.Path.{_≡_, refl, _∙_}
 use lib.ListN.{length}
@@ -17,38 +17,14 @@ abbrev μ-loop : tie.MeasureT-loop
 loop-holds : tie.Need-loop-holds Inv-loop μ-loop
 loop-holds c = (omega arith, refl, wrote-no-row _ _ _)
 
-mul-put-row : tie.Need-mul-put-row Inv-loop μ-loop
-mul-put-row c = search needs
+row-node-requires : tie.Need-row-node-requires Inv-loop μ-loop
+row-node-requires c κs = search needs
 
-mul-put-row-2 : tie.Need-mul-put-row-2 Inv-loop μ-loop
-mul-put-row-2 c = search needs
+row-branch-requires : tie.Need-row-branch-requires Inv-loop μ-loop
+row-branch-requires c κs = search needs
 
-shared-slice-read-put-row : tie.Need-shared-slice-read-put-row Inv-loop μ-loop
-shared-slice-read-put-row c = search needs
-
-mul-put-row-3 : tie.Need-mul-put-row-3 Inv-loop μ-loop
-mul-put-row-3 c = search needs
-
-add-put-row : tie.Need-add-put-row Inv-loop μ-loop
-add-put-row c = search needs
-
-mul-put-row-4 : tie.Need-mul-put-row-4 Inv-loop μ-loop
-mul-put-row-4 c = search needs
-
-shared-slice-read-put-row-2 : tie.Need-shared-slice-read-put-row-2 Inv-loop μ-loop
-shared-slice-read-put-row-2 c = search needs
-
-mul-put-row-5 : tie.Need-mul-put-row-5 Inv-loop μ-loop
-mul-put-row-5 c = search needs
-
-add-put-row-2 : tie.Need-add-put-row-2 Inv-loop μ-loop
-add-put-row-2 c = search needs
-
-mul-put-row-6 : tie.Need-mul-put-row-6 Inv-loop μ-loop
-mul-put-row-6 c = search needs
-
-shared-slice-read-put-row-3 : tie.Need-shared-slice-read-put-row-3 Inv-loop μ-loop
-shared-slice-read-put-row-3 c = search needs
+row-rank-requires : tie.Need-row-rank-requires Inv-loop μ-loop
+row-rank-requires c κs = search needs
 
 put-row-requires : tie.Need-put-row-requires Inv-loop μ-loop
 put-row-requires c κs = let n = c .before .before .before .before .before .before .before .before .args .n in let r = c .before .before .before .before .before .before .before .before .args .rows .now in let l = c .before .before .before .before .before .loop in omega (arith, l .inv .2 .end, rows-up (n - l .i) (l .i) n r (omega arith), c .before .before .before .before .before .before .before .before .pre .0)
@@ -60,7 +36,7 @@ loop-less : tie.Need-loop-less Inv-loop μ-loop
 loop-less c = search needs
 
 loop-again : tie.Need-loop-again Inv-loop μ-loop
-loop-again c = let r = c .before .before .before .before .before .before .before .before .before .before .before .args .rows .now in let l = c .before .before .before .before .before .before .before .before .loop in let q = c .before .before .put-row .ensures in (omega arith, q .long ∙ l .inv .1, wrote-row (l .i) r (l .inv .2) q)
+loop-again c = let r = c .before .before .before .before .before .before .before .before .before .before .before .args .rows .now in let l = c .before .before .before .before .before .before .before .before .loop in let q = rw (c .before .before .before .before .before .before .row-node .ensures, c .before .before .before .before .before .row-branch .ensures, c .before .before .before .before .row-rank .ensures) at (c .before .before .put-row .ensures) in (omega arith, q .long ∙ l .inv .1, wrote-row (l .i) r (l .inv .2) q)
 
 same-length : tie.Need-same-length Inv-loop μ-loop
 same-length c = search needs
@@ -75,17 +51,9 @@ put-rows-spec =
     Inv-loop
     μ-loop
     loop-holds
-    mul-put-row
-    mul-put-row-2
-    shared-slice-read-put-row
-    mul-put-row-3
-    add-put-row
-    mul-put-row-4
-    shared-slice-read-put-row-2
-    mul-put-row-5
-    add-put-row-2
-    mul-put-row-6
-    shared-slice-read-put-row-3
+    row-node-requires
+    row-branch-requires
+    row-rank-requires
     put-row-requires
     add-i
     loop-less

@@ -6,8 +6,8 @@ use Rattle.bitml.specs.Answers.{answer}
 use Rattle.tables.specs.Entries.{held, people}
 use Rattle.tables.specs.SheetOf.{sheetIn}
 use Rattle.tables.proofs.SheetOf.{defs-are}
-use Rattle.requests.specs.Rows.{rowsOf}
-use Rattle.requests.proofs.Laws.{rows-length}
+use Rattle.buffer.specs.Buffer.{rowsOf}
+use Rattle.buffer.proofs.Buffer.{rows-length}
 use Rattle.replies.proofs.Giving.{gives-as}
 use Rattle.exits.proofs.Told.{root-first}
 use Rattle.verdicts.proofs.Verdicts.{check-liquid, check-refused, place-few}

@@ -5,6 +5,7 @@ use mathlib.Core.Path.{_≡_, refl, ap, _∙_, subst}
 use lib.ListN.{length}
 use Rattle.tables.specs.Entries.{people}
 use Rattle.tables.specs.SheetOf.{sheetIn}
+use Rattle.buffer.specs.Buffer.{numbersOfOne}
 use Rattle.texts.specs.Wrote.{Wrote}
 use Rattle.verdicts.specs.Parties.{mostOfOne, linesUpTo, numbersUpTo}
 use Rattle.verdicts.proofs.Verdicts.{made-few}
@@ -55,9 +56,9 @@ loop-less c = omega arith
 loop-again : tie.Need-loop-again Inv-loop μ-loop
 loop-again c = let l = c .before .before .before .before .before .before .before .before .loop in let v = c .before .before .before .before .verdict-for .ensures in let few = made-few _ _ (c .before .before .before .before .before .before .before .before .before .before .before .before .before .before .pre .0 .promises) in
     let m = c .before .before .before .before .before .before .before .before .before .before .before .before .before .before .pre .0 .promises .limits .people in let k = c .before .before .before .before .before .before .before .before .before .people .ensures in
-    let f = 1536 * l .p in
-    let w : f + 1536 - f ≡ 1536 = omega arith in
-    let n : length (midOf f (f + 1536 - f) (l .rows)) ≡ 1536 = mid-len f (f + 1536) (l .rows) (omega (arith, l .inv .2, c .before .before .before .before .before .before .before .before .before .before .before .before .before .before .pre .1 .0, k, m)) ∙ w in
+    let f = numbersOfOne * l .p in
+    let w : f + numbersOfOne - f ≡ numbersOfOne = omega arith in
+    let n : length (midOf f (f + numbersOfOne - f) (l .rows)) ≡ numbersOfOne = mid-len f (f + numbersOfOne) (l .rows) (omega (arith, l .inv .2, c .before .before .before .before .before .before .before .before .before .before .before .before .before .before .pre .1 .0, k, m)) ∙ w in
     (omega arith, omega (arith, v .1 .1, l .inv .1), c .before .before .before .rows .given .1 ∙ l .inv .2, v .1 .0 .long ∙ l .inv .3, numbers-next _ few (l .p) _ _ _ _ _ w n (l .inv .4) (v .0), lines-next _ few (l .p) (l .inv .5) (v .1 .0))
 
 same-length : tie.Need-same-length Inv-loop μ-loop

@@ -3,7 +3,7 @@ use native.Mathlib.Omega.{arith}
 use Prim.Native.Nat.{_-_, _≤_, _<_}
 use mathlib.Core.Path.{_≡_, refl, _∙_, subst}
 use lib.ListN.{getD}
-use Rattle.tables.specs.Entries.{held, people}
+use Rattle.tables.specs.Entries.{held, people, mostNodes}
 use Rattle.bitml.proofs.Shortest.{near-there}
 use Rattle.ways.specs.Marks.{Marked, Close, LedUpTo}
 use Rattle.ways.proofs.Queue.{tail-le}
@@ -15,7 +15,7 @@ abbrev Inv-loop : tie.InvT-loop
 Inv-loop t target dist₀ y queue₀ end₀ head₀ dist queue end head = (head ≤ end) × Marked (people t) (held t) target dist queue end × (getD dist target 0 ≡ 1) × LedUpTo (held t) dist queue head × (head < end → Close dist (getD dist (getD queue head 0) 0))
 
 abbrev μ-loop : tie.MeasureT-loop
-μ-loop t target dist₀ y queue₀ end₀ head₀ dist queue end head = 512 - head
+μ-loop t target dist₀ y queue₀ end₀ head₀ dist queue end head = mostNodes - head
 
 slice-aggregate-index-namers : tie.Need-slice-aggregate-index-namers Inv-loop μ-loop
 slice-aggregate-index-namers c = search needs

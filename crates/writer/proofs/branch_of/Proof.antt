@@ -1,6 +1,6 @@
 use Rattle.writer.proofs.Numbers.{branch-there, branch-none}
-use Rattle.tables.specs.Entries.{branchIn, held}
 use Rattle.tables.specs.SheetOf.{branchEntryAt}
+use Rattle.tables.specs.Entries.{branchIn, held, branchWide, branchesFrom}
 use Prim.Native.Nat.{ℕ, _+_, _*_}
 use lib.ListN.{getD}
 use mathlib.Core.Path.{_≡_, sym, ap, _∙_}
@@ -70,7 +70,7 @@ returns c =
     let i = c7 .args .i in
     let e : branchIn t i ≡ branchEntryAt (held t) i = sym (branch-there t i (omega arith)) in
     let at : (j k : ℕ) → j ≡ k → getD t j 0 ≡ getD t k 0 = λ j k h. ap (λ l. getD t l 0) h in
-    (at (2056 + 8 * i + 1) (2057 + 8 * i) (omega arith) ∙ ap (λ b. b .signers) e, at (2056 + 8 * i + 2) (2058 + 8 * i) (omega arith) ∙ ap (λ b. b .opens) e, at (2056 + 8 * i + 3) (2059 + 8 * i) (omega arith) ∙ ap (λ b. b .kind) e, at (2056 + 8 * i + 4) (2060 + 8 * i) (omega arith) ∙ ap (λ b. b .arg) e, at (2056 + 8 * i + 6) (2062 + 8 * i) (omega arith) ∙ ap (λ b. b .count) e)
+    (at (branchesFrom + branchWide * i + 1) (branchesFrom + 1 + branchWide * i) (omega arith) ∙ ap (λ b. b .signers) e, at (branchesFrom + branchWide * i + 2) (branchesFrom + 2 + branchWide * i) (omega arith) ∙ ap (λ b. b .opens) e, at (branchesFrom + branchWide * i + 3) (branchesFrom + 3 + branchWide * i) (omega arith) ∙ ap (λ b. b .kind) e, at (branchesFrom + branchWide * i + 4) (branchesFrom + 4 + branchWide * i) (omega arith) ∙ ap (λ b. b .arg) e, at (branchesFrom + branchWide * i + 6) (branchesFrom + 6 + branchWide * i) (omega arith) ∙ ap (λ b. b .count) e)
 
 returns-2 : tie.Need-returns-2
 returns-2 c =

@@ -1,3 +1,4 @@
+use Rattle.tables.specs.Entries.{defWide, defsFrom}
 use Rattle.writer.proofs.Numbers.{def-there, def-none}
 use Prim.Native.Nat.{_+_, _*_}
 use lib.ListN.{getD}
@@ -30,7 +31,7 @@ returns c =
     let c3 = c .before .before .before in
     let t = c3 .args .t .now in
     let i = c3 .args .i in
-    ap (λ k. getD t k 0) (let e : 10248 + 3 * i + 2 ≡ 10250 + 3 * i = omega arith in e) ∙ sym (ap (λ e. e .secrets) (def-there t i (omega arith)))
+    ap (λ k. getD t k 0) (let e : defsFrom + defWide * i + 2 ≡ defsFrom + 2 + defWide * i = omega arith in e) ∙ sym (ap (λ e. e .secrets) (def-there t i (omega arith)))
 
 returns-2 : tie.Need-returns-2
 returns-2 c =

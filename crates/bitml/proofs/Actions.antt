@@ -1,6 +1,6 @@
 -- Laws of actions: what an own action is not, and what firing makes of it. Assumes nothing.
 use mathlib.Core.Path.{◌≡◌, refl, ap}
-use Prim.Native.Nat.{ℕ, ◌+◌}
+use Prim.Native.Nat.{ℕ, ◌+◌, ◌-◌, ◌*◌, ◌/◌}
 use mathlib.Core.Bool.{true, false, not, false≢true}
 use mathlib.Core.List.{List, [], ◌∷◌, map}
 use Rattle.bitml.specs.Lists.{sum, All, nil, cons}
@@ -45,7 +45,7 @@ making-all Q k (split qs) h = go k.balance qs h
         → All Q (splitting k.balance (sum (map (λ q. q.weight) qs)) left k.set ps)
     go left [] h = nil
     go left (q ∷ []) h = cons (all_head h left) nil
-    go left (q ∷ r ∷ ps) h = cons (all_head h _) (go _ (r ∷ ps) (all_tail h))
+    go left (q ∷ r ∷ ps) h = cons (all_head h _) (go (left - k.balance * q.weight / sum (map (λ q. q.weight) qs)) (r ∷ ps) (all_tail h))
 making-all Q k (reveal js p n) h = cons (all_head h k.balance) nil
 making-all Q k (renew_as d) h = nil
 
@@ -58,6 +58,6 @@ making-rank R k (split qs) = go k.balance qs
         → live_rank R (splitting k.balance (sum (map (λ q. q.weight) qs)) left k.set ps) ≡ sum (map (rank_of R) (parts (split ps)))
     go left [] = refl
     go left (q ∷ []) = refl
-    go left (q ∷ r ∷ ps) = ap (λ t. rank_of R q.node + t) (go _ (r ∷ ps))
+    go left (q ∷ r ∷ ps) = ap (λ t. rank_of R q.node + t) (go (left - k.balance * q.weight / sum (map (λ q. q.weight) qs)) (r ∷ ps))
 making-rank R k (reveal js p n) = refl
 making-rank R k (renew_as d) = refl

@@ -91,7 +91,10 @@ unfolding ◌⇒◌
 other a b e f = rw (e, f)
 
 secret_in : (a : Action) (j : ℕ) → Memᴰ j (secrets_of a) → (js : List ℕ) × (c : Cond) × (m : ℕ) × (a ≡ reveal js c m) × Memᴰ j js
+secret_in (withdraw _) j h = elim h [ ]
+secret_in (split _) j h = elim h [ ]
 secret_in (reveal js c m) j h = (js, c, m, refl, h)
+secret_in (renew_as _) j h = elim h [ ]
 
 condition_in_lem : (a : Action) → counts_always (condition_of a) ≡ false → (js : List ℕ) × (c : Cond) × (m : ℕ) × (a ≡ reveal js c m) × (counts_always c ≡ false)
 unfolding counts_always ◌&◌

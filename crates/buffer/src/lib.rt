@@ -1,4 +1,7 @@
 // The row buffer as numbers: node, branch and rank of each place.
+
+#![tactic(auto)]
+
 ghost use Rattle.std.specs.Prelude.{◌≡◌, [], ◌+◌, ◌*◌, ◌≤◌, length};
 ghost use Rattle.buffer.specs.Buffer.{row_wide, row, row_in, stored, rows_of, filled};
 

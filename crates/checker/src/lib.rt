@@ -1,4 +1,7 @@
 // The checker's entry: any request and any lent buffers get one reply, and so do any text and any table.
+
+#![tactic(auto)]
+
 ghost use Rattle.std.specs.Prelude.{◌≡◌, true, false, ◌/◌, ◌*◌, ◌-◌, ◌≤◌, length, take, drop, replicate};
 ghost use Rattle.bitml.specs.Answers.{places_of_one};
 ghost use Rattle.reading.specs.Request.{read_request};

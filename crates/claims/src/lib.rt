@@ -1,1 +1,4 @@
 // All that is claimed, in one record. Nothing here runs.
+
+#![tactic(auto)]
+

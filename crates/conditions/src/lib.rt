@@ -1,5 +1,8 @@
 // Conditions and expressions, read into cells of the table that the caller lends. "A condition may nest": a reader calls itself for each part,
 // over the fields that may still come, and their count falls. What it answers says how many are left behind what it read.
+
+#![tactic(auto)]
+
 ghost use Rattle.std.specs.Prelude.{◌≡◌, ◌+◌, ◌<◌, length};
 ghost use Rattle.tables.specs.State.{state_of, more_cells, Fits};
 ghost use Rattle.tables.specs.Entries.{cells_from, Spacious, most_cells};

@@ -1,4 +1,7 @@
 // A contract and its branches, read into the table that the caller lends.
+
+#![tactic(auto)]
+
 ghost use Rattle.std.specs.Prelude.{◌+◌, ◌≤◌, ◌<◌};
 ghost use Rattle.tables.specs.State.{state_of};
 ghost use Rattle.tables.specs.Entries.{Spacious, most_branches, most_listed};

@@ -1,4 +1,7 @@
 // What each event does to the ledger's counts, which are taken by value and handed back, and to its contracts, sets and payments, which stand in cells that are lent.
+
+#![tactic(auto)]
+
 ghost use Rattle.std.specs.Prelude.{◌≡◌, ℕ, ◌+◌, ◌≤◌, ◌<◌, length, get_or, replicate};
 ghost use Rattle.bitml.specs.Ledger.{wait, sign, tell, fire};
 ghost use Rattle.tables.specs.Entries.{held, people};

@@ -1,4 +1,7 @@
 // What a branch asks of signatures and secrets, and what it brings: sums and tests over numbers and a sheet's table.
+
+#![tactic(auto)]
+
 ghost use Rattle.std.specs.Prelude.{◌≡◌, map, ◌+◌, ◌-◌, ◌/◌, ◌%◌, ◌^◌, ◌≤◌, ◌<◌, eqb, length};
 ghost use Rattle.bitml.specs.Lists.{every, up_from};
 ghost use Rattle.bitml.specs.Sheet.{holds};

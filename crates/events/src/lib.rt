@@ -1,4 +1,7 @@
 // The event lines of `play`. One reader serves the reading of the whole request and the play after it.
+
+#![tactic(auto)]
+
 ghost use Rattle.std.specs.Prelude.{◌≡◌};
 ghost use Rattle.events.specs.Events.{pair_at, last_pair_at, wait_at, sign_at, tell_at, fire_at, values_at, renew_at, event_at, next_of, events_at};
 

@@ -1,4 +1,7 @@
 // Ranks and the published rows.
+
+#![tactic(auto)]
+
 ghost use Rattle.std.specs.Prelude.{◌≡◌, cond, [], ℕ, ◌+◌, ◌*◌, ◌≤◌, ◌<◌, eqb, length};
 ghost use Rattle.bitml.specs.Lists.{keep, below};
 ghost use Rattle.bitml.specs.Sheet.{parts};

@@ -1,4 +1,7 @@
 // A request's fields: a field's end, a number, a word, a line's end. A position is an index of the request.
+
+#![tactic(auto)]
+
 ghost use Rattle.std.specs.Prelude.{◌≡◌, true, ◌+◌, ◌≤◌, ◌<◌, length, drop};
 ghost use Rattle.fields.specs.Run.{run_at, ends_at};
 ghost use Rattle.fields.specs.Field.{field_len, packed, packed_of, any_at, word_from, word_at, first_at, line_end_at};

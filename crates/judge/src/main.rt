@@ -2,6 +2,9 @@
 //
 // Half a request can be another request, as a `check` without its last rows is. So none is judged:
 // where a read fails, nothing is written, and that is no answer.
+
+#![tactic(auto)]
+
 ghost use Rattle.judge.specs.Input.{Within};
 
 use buffer::ALL_NUMBERS;

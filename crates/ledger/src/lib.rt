@@ -1,4 +1,7 @@
 // The program's ledger: its counts and the cells that are lent to it for a run. Each event takes a ledger by value and hands back the ledger after it.
+
+#![tactic(auto)]
+
 ghost use Rattle.std.specs.Prelude.{◌≡◌, ◌≤◌, ◌<◌, length, replicate};
 ghost use denote.Ref.{at_last};
 ghost use Rattle.bitml.specs.Ledger.{wait, sign, tell, fire, renew};

@@ -1,4 +1,7 @@
 // The rows that a caller lends, as structs: they are filled from a row buffer of numbers.
+
+#![tactic(auto)]
+
 ghost use Rattle.std.specs.Prelude.{◌≡◌, ◌+◌, ◌*◌, ◌≤◌, ◌<◌, length, get_or};
 ghost use Rattle.buffer.specs.Buffer.{row_wide};
 ghost use Rattle.lent.specs.Structs.{struct_at, reached_of, structs};

@@ -1,4 +1,7 @@
 // Line 1 and the `def` lines: the whole sheet, read into the table that the caller lends.
+
+#![tactic(auto)]
+
 ghost use Rattle.std.specs.Prelude.{◌≡◌, List, ℕ, ◌+◌, ◌≤◌, ◌<◌, length};
 ghost use Rattle.tables.specs.State.{state_of};
 ghost use Rattle.tables.specs.Entries.{Spacious, most_listed, most_defs};

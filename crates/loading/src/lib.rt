@@ -1,4 +1,7 @@
 // A text of line 1 and `def` lines, read into a table that the caller lends.
+
+#![tactic(auto)]
+
 ghost use Rattle.std.specs.Prelude.{◌≡◌, ◌++◌, ◌-◌, ◌≤◌, length, take, drop, replicate};
 ghost use Rattle.tables.specs.Entries.{held, people, table_long};
 ghost use Rattle.reading.specs.Promises.{Sizes};

@@ -1,4 +1,7 @@
 // The nodes of rows that anyone gives, in one pass: two rows of one node, and rows that fall.
+
+#![tactic(auto)]
+
 ghost use Rattle.std.specs.Prelude.{◌≡◌, [], ◌+◌, ◌<◌, drop};
 ghost use Rattle.bitml.specs.Rows.{repeated, or_else};
 ghost use Rattle.buffer.specs.Buffer.{rows_of};

@@ -1,4 +1,7 @@
 // Which branches are own, and what keeps the others from it.
+
+#![tactic(auto)]
+
 ghost use Rattle.std.specs.Prelude.{◌≡◌, map, ◌+◌, ◌≤◌, ◌<◌, length};
 ghost use Rattle.bitml.specs.Lists.{every, up_from};
 ghost use Rattle.bitml.specs.Sheet.{owns};

@@ -1,4 +1,7 @@
 // The ledger's cells: one slice of numbers in sections, lent to the ledger for a run. The contracts speak of the lists that the sections hold.
+
+#![tactic(auto)]
+
 ghost use Rattle.std.specs.Prelude.{◌≡◌, ◌+◌, ◌*◌, ◌≤◌, ◌<◌, eqb, length, get_or};
 ghost use Rattle.pages.specs.Pages.{cells_long, pages_in, nodes, balances, set_numbers, lives, secret_counts, states, payments, signatures, put, with_contract, buried, with_set, with_secret};
 

@@ -1,4 +1,7 @@
 // Where a refusal stands: the line and field of a position; and where the sheet's limit on bytes is passed.
+
+#![tactic(auto)]
+
 ghost use Rattle.std.specs.Prelude.{◌≡◌, ◌+◌, ◌≤◌, ◌<◌, ◌^◌, length};
 ghost use Rattle.places.specs.Places.{place_of, passing_of};
 ghost use Rattle.places.specs.Counting.{same_of, count_of, start_of, field_in};

@@ -1,4 +1,7 @@
 // `play`: the events on the program's ledger, each with its answer.
+
+#![tactic(auto)]
+
 ghost use Rattle.std.specs.Prelude.{◌≡◌, ◌+◌, ◌≤◌, length, replicate};
 ghost use Rattle.bitml.specs.Ledger.{stipulated};
 ghost use Rattle.bitml.specs.Answers.{event_line, playing, end_of, play_lines, answer};

@@ -1,1 +1,4 @@
 // What reading promises of each entry: its numbers lie within their ranges.
+
+#![tactic(auto)]
+

@@ -1,4 +1,7 @@
 // Which nodes some run reaches: those of the definitions that renewals lead to from definition 0.
+
+#![tactic(auto)]
+
 ghost use Rattle.std.specs.Prelude.{◌≡◌, true, ℕ, ◌<◌, length, get_or};
 ghost use Rattle.bitml.specs.Rule as rule;
 ghost use Rattle.tables.specs.Entries.{held, people, most_nodes};

@@ -1,4 +1,7 @@
 // A reader that goes field by field over the whole request: it holds the request and a position. Every field of a request is read through it; the work on bytes is done by `fields`.
+
+#![tactic(auto)]
+
 ghost use Rattle.std.specs.Prelude.{◌≡◌};
 ghost use Rattle.fields.specs.Field.{any_at, number_at, below_at, between_at, word_at, first_at, line_end_at};
 

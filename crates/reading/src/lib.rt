@@ -1,4 +1,7 @@
 // The whole request, read before anything is judged; and what is promised of a sheet that was read.
+
+#![tactic(auto)]
+
 ghost use Rattle.std.specs.Prelude.{◌≡◌, List, ℕ, ◌≤◌, length, get_or};
 ghost use Rattle.tables.specs.Entries.{held, people, cells_from, Spacious, most_nodes};
 ghost use Rattle.buffer.specs.Buffer.{numbers_of_one};

@@ -1,4 +1,7 @@
 // `why` of a sheet that stands in the table, with its text.
+
+#![tactic(auto)]
+
 ghost use Rattle.std.specs.Prelude.{◌≡◌, true, map, ◌+◌, ◌*◌, ◌≤◌, ◌<◌, length};
 ghost use Rattle.bitml.specs.Sheet.{branch_at};
 ghost use Rattle.bitml.specs.Runs.{Exit};

@@ -1,4 +1,7 @@
 // The value that answers a request, what refuses one before it is read, and the buffers after a refusal.
+
+#![tactic(auto)]
+
 ghost use Rattle.std.specs.Prelude.{◌≡◌, ◌≤◌, length};
 ghost use Rattle.bitml.specs.Answers.{refused, places_of_one};
 ghost use Rattle.replies.specs.Answer.{Gives, least_text};

@@ -1,4 +1,7 @@
 // The last part of a request: `make`, `makeall`, `why`, `check` with its rows, `play` with its values.
+
+#![tactic(auto)]
+
 ghost use Rattle.std.specs.Prelude.{◌≡◌, ◌+◌, ◌≤◌, ◌<◌, length};
 ghost use Rattle.tables.specs.Entries.{cells_from, most_nodes};
 ghost use Rattle.buffer.specs.Buffer.{numbers_of_one};

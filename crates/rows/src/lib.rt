@@ -1,4 +1,7 @@
 // Rows that anyone gives are accepted, or the first fault is found.
+
+#![tactic(auto)]
+
 ghost use Rattle.std.specs.Prelude.{◌≡◌, [], ℕ, suc, ◌≤◌, ◌<◌, length, get_or};
 ghost use Rattle.bitml.specs.Lists.{every};
 ghost use Rattle.bitml.specs.Rows.{faulty};

@@ -1,4 +1,7 @@
 // A sheet that stands in a table, written as text into a buffer that the caller lends.
+
+#![tactic(auto)]
+
 ghost use Rattle.std.specs.Prelude.{◌≡◌, true, false, ◌+◌, ◌≤◌, length, get_or};
 ghost use Rattle.tables.specs.Entries.{held, people, cells_from, table_long, Spacious, Within};
 ghost use Rattle.lines.specs.Sheet.{read_sheet};

@@ -1,4 +1,7 @@
 // A sheet's table once it is read: its entries, and an index of them.
+
+#![tactic(auto)]
+
 ghost use Rattle.std.specs.Prelude.{◌≡◌, ◌≤◌, ◌<◌, length, get_or};
 ghost use Rattle.tables.specs.Entries.{held, people, most_nodes};
 ghost use Rattle.tables.specs.SheetOf.{node_entry_at, branch_entry_at, def_entry_at, listed_at, branch_count, branch_number, part_count, part_number, deposit_of, owner_of};

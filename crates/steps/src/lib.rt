@@ -1,4 +1,7 @@
 // How the sheet's reader goes on: a field is read, the position moves, and the counts of entries stay.
+
+#![tactic(auto)]
+
 ghost use Rattle.std.specs.Prelude.{◌≡◌};
 ghost use Rattle.fields.specs.Field.{number_at, word_at, first_at, line_end_at};
 ghost use Rattle.steps.specs.Steps.{moved};

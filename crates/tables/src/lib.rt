@@ -1,4 +1,7 @@
 // The one table that holds a sheet: its layout, and how much of it is filled.
+
+#![tactic(auto)]
+
 ghost use Rattle.std.specs.Prelude.{◌≡◌, ◌+◌, ◌^◌, ◌≤◌, ◌<◌, length};
 ghost use Rattle.tables.specs.State.{state_of, Fits, node_entry, branch_entry, def_entry, with_node, with_branch, with_def, with_listed, with_cell, more_nodes, more_branches, more_defs, more_listed, more_cells, listed_of, among, since, Headed};
 ghost use Rattle.tables.specs.Entries.{cells_from, most_nodes, most_branches, most_listed, most_cells, most_defs};

@@ -1,4 +1,7 @@
 // What is printed: each line, and each part of one, written into a buffer of bytes from a position on; the position behind it comes back.
+
+#![tactic(auto)]
+
 ghost use Rattle.std.specs.Prelude.{◌≡◌, [], ◌∷◌, map, ◌+◌, ◌*◌, ◌≤◌, ◌<◌, length, replicate};
 ghost use Rattle.bitml.specs.Answers.{row_line, liquid_line, frozen_line, step_line, branch_line, refused_line, taken_line, end_line, event_line};
 ghost use Rattle.buffer.specs.Buffer.{row_wide, row, rows_of};

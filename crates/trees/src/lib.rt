@@ -1,1 +1,4 @@
 // The trees that a sheet lists.
+
+#![tactic(auto)]
+

@@ -1,5 +1,8 @@
 // Whether a condition holds, and whether it names a secret: one evaluation tells both. "A condition may nest; its value follows its parts":
 // it calls itself for each part, over the fields that are left, and their count falls. What it finds it writes on a slate that the caller lends.
+
+#![tactic(auto)]
+
 ghost use Rattle.std.specs.Prelude.{◌≡◌, cond, ◌-◌, ◌≤◌, ◌<◌, eqb, ltb, length, get_or};
 ghost use Rattle.bitml.specs.Sheet.{holds};
 ghost use Rattle.bitml.specs.Runs.{counts_always};

@@ -1,4 +1,7 @@
 // `make`, `makeall` and `check` of a sheet that stands in the table, with their text.
+
+#![tactic(auto)]
+
 ghost use Rattle.std.specs.Prelude.{◌≡◌, ◌+◌, ◌≤◌, ◌<◌, length};
 ghost use Rattle.bitml.specs.Rule as rule;
 ghost use Rattle.bitml.specs.Answers.{making, making_all, checking, made_lines, answer};

@@ -1,4 +1,7 @@
 // The way to a node: how many steps each node is from it, and which step is taken next.
+
+#![tactic(auto)]
+
 ghost use Rattle.std.specs.Prelude.{◌≡◌, true, ℕ, ◌≤◌, ◌<◌, length, get_or};
 ghost use Rattle.bitml.specs.Runs.{next};
 ghost use Rattle.bitml.specs.Why.{near};

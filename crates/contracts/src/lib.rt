@@ -27,7 +27,7 @@ const R: usize = b'r' as usize;
 const G: usize = b'g' as usize;
 
 // 2^K, K and F; the definition that is read, and how many secrets it has.
-#[derive(Drop)]
+#[derive(Clone, Copy)]
 pub struct Limits {
     pub all: usize,
     pub people: usize,

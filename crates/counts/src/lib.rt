@@ -27,7 +27,7 @@ use sheets::{
 use tables::{Action, Sheet, mask_of};
 
 // Its answer to the last event is 0 where that was taken. Made counts the contracts, dead ones too, and taken the deposits.
-#[derive(Drop)]
+#[derive(Clone, Copy)]
 pub struct Counts {
     pub answer: usize,
     pub time: usize,

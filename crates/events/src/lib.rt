@@ -37,7 +37,7 @@ const VALUES: usize = 8;
 const MISSING: usize = 2;
 
 // An event, and the position after its line; or a refusal.
-#[derive(Drop)]
+#[derive(Clone, Copy)]
 pub enum Event {
     // How long.
     Wait(usize, usize),
@@ -54,14 +54,14 @@ pub enum Event {
 }
 
 // Two numbers and the position after them; or a refusal.
-#[derive(Drop)]
+#[derive(Clone, Copy)]
 pub enum Pair {
     Two(usize, usize, usize),
     Bad(usize, usize),
 }
 
 // Whether event lines can be read, all to the request's end.
-#[derive(Drop)]
+#[derive(Clone, Copy)]
 pub enum Lines {
     Good,
     Bad(usize, usize),

@@ -19,13 +19,13 @@ use owning::own;
 use sheets::{branch_arg, branch_count, branch_kind, branch_of, node_total, part_count, part_of};
 use tables::{Action, Sheet};
 
-#[derive(Drop)]
+#[derive(Clone, Copy)]
 pub struct Choice {
     pub branch: usize,
     pub rank: usize,
 }
 
-#[derive(Drop)]
+#[derive(Clone, Copy)]
 pub enum Verdict {
     // how many rows, and the rank of node 0
     Liquid(usize, usize),

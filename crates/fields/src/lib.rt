@@ -16,14 +16,14 @@ const DIGITS: usize = 19;
 const LETTERS: usize = 7;
 
 // What digits spell, and the position behind them.
-#[derive(Drop)]
+#[derive(Clone, Copy)]
 pub struct Run {
     pub value: usize,
     pub end: usize,
 }
 
 // A value and the position after its field; or a refusal's number and the position before its field.
-#[derive(Drop)]
+#[derive(Clone, Copy)]
 pub enum Got {
     Value(usize, usize),
     Bad(usize, usize),

@@ -21,7 +21,7 @@ use sheets::def_secrets;
 use tables::Sheet;
 
 // A value as one number, 0 for `x`, else one more than it; and the position after its field.
-#[derive(Drop)]
+#[derive(Clone, Copy)]
 pub struct Value {
     pub number: usize,
     pub next: usize,

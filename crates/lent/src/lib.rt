@@ -9,7 +9,7 @@ ghost use Rattle.lent.specs.Structs.{struct_at, reached_of, structs};
 use buffer::{ROW_WIDE, row_branch, row_node, row_rank};
 
 #[repr(C)]
-#[derive(Drop)]
+#[derive(Clone, Copy)]
 pub struct Row {
     pub node: usize,
     pub branch: usize,

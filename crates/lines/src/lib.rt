@@ -30,7 +30,7 @@ const BITML: usize = (((b'b' as usize * 256 + b'i' as usize) * 256 + b't' as usi
 const DEF: usize = (b'd' as usize * 256 + b'e' as usize) * 256 + b'f' as usize;
 
 // K and F, and the position after line 1; or a refusal.
-#[derive(Drop)]
+#[derive(Clone, Copy)]
 pub enum LineOne {
     Counts(usize, usize, usize),
     Bad(usize, usize),

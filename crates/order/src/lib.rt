@@ -16,7 +16,7 @@ const REPEATED: usize = 10;
 const OUT_OF_ORDER: usize = 21;
 
 // A refusal's number and its row's place, from 1, or 0 for the line of `check`. The number 0 is for none.
-#[derive(Drop)]
+#[derive(Clone, Copy)]
 pub struct Fault {
     pub number: usize,
     pub place: usize,

@@ -11,7 +11,7 @@ const COMMA: u8 = b',';
 const LF: u8 = b'\n';
 
 // A line and a field, both from 1.
-#[derive(Drop)]
+#[derive(Clone, Copy)]
 pub struct Place {
     pub line: usize,
     pub field: usize,

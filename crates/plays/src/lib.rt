@@ -46,7 +46,7 @@ const RENEW: usize = 4;
 const NONE: usize = 5;
 
 // The event that is due: its kind, its numbers in their order (of a renewal contract, branch, where the values stand and how many), where its line ends; and for its answer the number of its line in the request and where the text ends.
-#[derive(Drop)]
+#[derive(Clone, Copy)]
 pub struct Turn {
     pub kind: usize,
     pub first: usize,

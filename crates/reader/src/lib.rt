@@ -10,7 +10,7 @@ use fields::{Got, first, line_end, number, word};
 // The largest number of 19 digits, which is all that a number has at most.
 const ANY: usize = 9999999999999999999;
 
-#[derive(Drop)]
+#[derive(Clone, Copy)]
 pub struct Reader<'a> {
     pub request: &'a [u8],
     pub at: usize,

@@ -17,7 +17,7 @@ use requests::{Part, last_part, rows};
 use tables::Sheet;
 
 // A request: the last part of one whose sheet stands in the table, or its refusal.
-#[derive(Drop)]
+#[derive(Clone, Copy)]
 pub enum Request {
     // The participant.
     Make(usize),

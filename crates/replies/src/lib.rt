@@ -20,7 +20,7 @@ pub const TOO_SHORT: usize = 7;
 
 // Refused with number, line and field; or, where the number is 0, answered with so many bytes of text.
 #[repr(C)]
-#[derive(Drop)]
+#[derive(Clone, Copy)]
 pub struct Reply {
     pub number: usize,
     pub line: usize,

@@ -41,7 +41,7 @@ const RANK: usize = 65535;
 const ROWS: usize = 512;
 
 // The last part's first line.
-#[derive(Drop)]
+#[derive(Clone, Copy)]
 pub enum Part {
     // The participant.
     Make(usize),
@@ -57,7 +57,7 @@ pub enum Part {
 }
 
 // A value of a secret, and the position after its field; `x`; or a refusal.
-#[derive(Drop)]
+#[derive(Clone, Copy)]
 pub enum Commitment {
     Number(usize, usize),
     Ill(usize),
@@ -65,7 +65,7 @@ pub enum Commitment {
 }
 
 // A line `row`: its node, branch and rank, and the position after it; or a refusal.
-#[derive(Drop)]
+#[derive(Clone, Copy)]
 pub enum RowLine {
     Row(usize, usize, usize, usize),
     Bad(usize, usize),

@@ -27,7 +27,7 @@ const NOT_OWN: usize = 12;
 
 const TOO_LOW: usize = 13;
 
-#[derive(Drop)]
+#[derive(Clone, Copy)]
 pub enum Checked {
     // how many rows, and the rank of node 0
     Liquid(usize, usize),

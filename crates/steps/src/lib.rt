@@ -11,7 +11,7 @@ use reader::{first_from, line_end_from, number_up_to, word_from};
 use tables::St;
 
 // A value and the state after it; or a refusal's number and the position before its field.
-#[derive(Drop)]
+#[derive(Clone, Copy)]
 pub enum Read {
     Value(usize, St),
     Bad(usize, usize),

@@ -7,7 +7,7 @@ ghost use Rattle.tables.specs.State.{state_of, Fits, node_entry, branch_entry, d
 ghost use Rattle.tables.specs.Entries.{cells_from, most_nodes, most_branches, most_listed, most_cells, most_defs};
 
 // How much of a sheet's table is filled, once it is read whole.
-#[derive(Drop)]
+#[derive(Clone, Copy)]
 pub struct Sheet {
     pub people: usize,
     pub defs: usize,
@@ -118,7 +118,7 @@ impl Sheet {
 }
 
 // The reading state: the position in the request, and how much of each section is filled.
-#[derive(Drop)]
+#[derive(Clone, Copy)]
 pub struct St {
     pub at: usize,
     pub nodes: usize,
@@ -129,7 +129,7 @@ pub struct St {
 }
 
 // What stands before a branch's action.
-#[derive(Drop)]
+#[derive(Clone, Copy)]
 pub struct Head {
     pub node: usize,
     pub signers: usize,
@@ -152,7 +152,7 @@ pub fn mask_of(p: usize) -> usize
 
 // A branch's action: its kind, the number after its letter or the node of its contract, and of an `r` where its secrets are
 // listed, how many, and where the cells of its condition start.
-#[derive(Drop)]
+#[derive(Clone, Copy)]
 pub struct Action {
     pub kind: usize,
     pub arg: usize,

@@ -1,9 +1,9 @@
 -- The parameters that a method passes on to what it calls, behind self and the cells: any list of shared slices and numbers. What they own is one item of a walk's context, and so are their locals, so that one walk serves all such lists.
---     Part n           a number, or a `&'j [R]` at one of n lifetimes, which stand behind the first of a signature.        slots ps     their places in it
+--     Part n           a number, or a `&'j [R]` at one of n lifetimes, which stand behind the first of a signature, with the laws of R (`RowLaws`), by which it can be had twice.        slots ps     their places in it
 --     sees             what a contract reads of them: the numbers and the lists
 --     words, typed, twice, stays, goes     their machine values; that these are of the locals' types; what they own can be had twice; it is still owned at exit.        counted     of numbers it is had for nothing
 --     at_other         all of it at another choice for the first lifetime, where the same is owned (`owns-same`), read (`sees_same`) and passed (`words_same`)
---     rooms, full      their locals before and after they hold values.        allocs-all, passes-all, opds-all, frees_all     the locals are allocated, the values stored, read for a call, and the locals freed
+--     rooms, full      their locals before and after they hold values.        allocs_all, passes_all, opds_all, frees_all     the locals are allocated, the values stored, read for a call, and the locals freed
 --     past, behind     the number of a local behind them, and that it is there
 -- Assumes `Logic`.
 use mathlib.Core.Path.{◌≡◌, refl, sym, ap, subst}
@@ -12,7 +12,7 @@ use mathlib.Core.List.{List, [], ◌∷◌}
 use lib.Dec.{T}
 use lib.ListN.{length, get_or}
 use seplogic.Ra.Ura.{Ura}
-use seplogic.Ra.TreeShare.{full_share}
+use base.Fraction.{full_share}
 use mir.Syntax.{Ty, ty_int, ty_ref, imm, named, w64, Local, local, value_local, Opd as Operand, copy, Step as PStep, place}
 use mir.Val.{Val, WT, has_ty, vint}
 use base.Logic.{SProp, ent, sep, wand, ex, emp, id⊢, via, comm∗, assoc∗, assoc', mono∗, mono_r, emp∗, wand_i, ex_i}
@@ -22,7 +22,7 @@ use types.Logic.{Logic, sem}
 use contract.Lifetimes.{Lfts, Within, lft_at}
 use types.Kit.{Item, Goal, ‵, raw, ◌⊛◌, ⋆, mean, nth, del, pull, unpull, Seq, allocs, passes, frees, ◌$◌, ◌∵◌, !, qed, move, drop, use1, split, join, fsplit3, fjoin3, done}
 use types.Run.{Reads, Walks, Finds, Opds, init, forget, stop, load, no_more, and_then, alloc1, pass1, pass0, free1}
-use denote.RattleType.{RattleType, Denots, Valss, flat, owns}
+use denote.RattleType.{RattleType, RowLaws, Denots, Valss, flat, owns}
 use denote.Laws.{Typed, Is, Ises, Are, Spells, valss, Tellss, Copy}
 use denote.Plain.{uint_Tells, uint_Makes, uint_copy}
 use denote.Builtin.{usize}
@@ -35,12 +35,12 @@ use denote.Triple.Walked.{Stays, stay_none, fits_of, has_of, AllGo, Goes-none}
 
 pub data Part (n : ℕ) : Type 2 where
   number : Part n
-  slice : (j : ℕ) → Within n j → RattleType → Part n
+  slice : (j : ℕ) → Within n j → (R : RattleType) → RowLaws R → Part n
 
 module _ {n : ℕ} where
   abbrev pub row : Part n → Lfts n → RattleType
   row number κs = usize
-  row (slice j ok R) κs = ShrSlice (named (suc j)) (lft_at n j ok κs) R
+  row (slice j ok R laws) κs = ShrSlice (named (suc j)) (lft_at n j ok κs) R
 
   abbrev pub slots : List (Part n) → List (Slot (suc n))
   slots [] = []
@@ -52,7 +52,7 @@ module _ {n : ℕ} where
 
   abbrev pub ty : Part n → Ty
   ty number = ty_int w64
-  ty (slice j ok R) = slice_ty (ty_ref (named (suc j)) imm R.written.ty)
+  ty (slice j ok R laws) = slice_ty (ty_ref (named (suc j)) imm R.written.ty)
 
   abbrev pub tys : List (Part n) → List Ty
   tys [] = []
@@ -61,11 +61,11 @@ module _ {n : ℕ} where
   -- ---- what is read
   abbrev pub Seen : Part n → Type 0
   Seen number = ℕ
-  Seen (slice j ok R) = List R.Denot
+  Seen (slice j ok R laws) = List R.Denot
 
   abbrev pub see : (p : Part n) (κs : Lfts n) → (row p κs).Denot → Seen p
   see number κs x = x
-  see (slice j ok R) κs x = x.now
+  see (slice j ok R laws) κs x = x.now
 
   abbrev pub Sees : List (Part n) → Type 0
   Sees [] = Unit {0}
@@ -78,7 +78,7 @@ module _ {n : ℕ} where
   -- ---- the machine values
   abbrev pub word : (p : Part n) (κs : Lfts n) → (row p κs).Denot → Val
   word number κs x = vint w64 x
-  word (slice j ok R) κs x = slice_val x.ref_ptr (length x.now)
+  word (slice j ok R laws) κs x = slice_val x.ref_ptr (length x.now)
 
   abbrev pub spells : (ps : List (Part n)) (κs : Lfts (suc n)) → Spells (types_at (slots ps) κs)
   spells [] κs = tt
@@ -92,7 +92,7 @@ module _ {n : ℕ} where
 
   tell-one : (p : Part n) (κs : Lfts n) (x : (row p κs).Denot) (vs : List Val) → Is (row p κs) x vs → vs ≡ word p κs x ∷ []
   tell-one number κs = uint_Tells w64
-  tell-one (slice j ok R) κs = shr_slice_Tells (named (suc j)) (lft_at n j ok κs) R
+  tell-one (slice j ok R laws) κs = shr_slice_Tells (named (suc j)) (lft_at n j ok κs) R
 
   pub tells : (ps : List (Part n)) (κs : Lfts (suc n)) → Tellss (types_at (slots ps) κs) (Ises (types_at (slots ps) κs)) (spells ps κs)
   tells [] κs = tt
@@ -106,7 +106,7 @@ module _ {n : ℕ} where
 
     pub owns-same : (ps : List (Part n)) (κs : Lfts (suc n)) (a : Denots (types_at (slots ps) κs)) → owns (types_at (slots ps) κs) a (vals ps κs a) ≡ owns (types_at (slots ps) (κ', κs.1)) (at_other ps κs a) (vals ps (κ', κs.1) (at_other ps κs a))
     owns-same [] κs a = refl
-    owns-same (p ∷ ps) κs a = ap (λ (P : Fml). fsep ((row p κs.1).own a.0 (word p κs.1 a.0 ∷ [])) P) (owns-same ps κs a.1)
+    owns-same (p ∷ ps) κs a = ap (λ (P : Fml). fsep ((row p κs.1).own_val a.0 (word p κs.1 a.0 ∷ [])) P) (owns-same ps κs a.1)
 
     pub words_same : (ps : List (Part n)) (κs : Lfts (suc n)) (a : Denots (types_at (slots ps) κs)) → words ps (κ', κs.1) (at_other ps κs a) ≡ words ps κs a
     words_same [] κs a = refl
@@ -123,11 +123,11 @@ module _ {n : ℕ} where
 
   abbrev last_one : (p : Part n) (κs : Lfts n) (x : (row p κs).Denot) → Last ((row p κs).exit yes) x
   last_one number κs x = tt
-  last_one (slice j ok R) κs x = tt
+  last_one (slice j ok R laws) κs x = tt
 
   silent_one : (p : Part n) (κs : Lfts n) (x : (row p κs).Denot) (f : Last ((row p κs).exit yes) x) → left ((row p κs).exit yes) x f ≡ ftrue
   silent_one number κs x f = refl
-  silent_one (slice j ok R) κs x f = refl
+  silent_one (slice j ok R laws) κs x f = refl
 
   abbrev pub fins : (ps : List (Part n)) (κs : Lfts (suc n)) (a : Denots (types_at (slots ps) κs)) → Fins κs (slots ps) (all yes (slots ps)) a
   fins [] κs a = tt
@@ -139,12 +139,12 @@ module _ {n : ℕ} where
 
   pub had_same : (ps : List (Part n)) (κs : Lfts (suc n)) (a : Denots (types_at (slots ps) κs)) (vss : Valss (types_at (slots ps) κs)) → owns (types_at (slots ps) κs) a vss ≡ has_of κs (slots ps) (all yes (slots ps)) (stays ps) a (fins ps κs a) vss
   had_same [] κs a vss = refl
-  had_same (p ∷ ps) κs a vss = ap (λ (P : Fml). fsep ((row p κs.1).own a.0 vss.0) P) (had_same ps κs a.1 vss.1)
+  had_same (p ∷ ps) κs a vss = ap (λ (P : Fml). fsep ((row p κs.1).own_val a.0 vss.0) P) (had_same ps κs a.1 vss.1)
 
   module _ {M : Type 1} {𝓤 : Ura M} (𝓛 : Logic 𝓤) where
     typed_one : (p : Part n) (κs : Lfts n) (x : (row p κs).Denot) → Is (row p κs) x (word p κs x ∷ []) → T (has_ty (ty p) (word p κs x)) × WT (word p κs x)
     typed_one number κs x is = (tt, record { fits = is.1 })
-    typed_one (slice j ok R) κs x is = ((shr_slice_Lawful 𝓛 (named (suc j)) (lft_at n j ok κs) R).typed x _ is).0
+    typed_one (slice j ok R laws) κs x is = ((shr_slice_Lawful 𝓛 (named (suc j)) (lft_at n j ok κs) R).typed x _ is).0
 
     pub typed : (ps : List (Part n)) (κs : Lfts (suc n)) (a : Denots (types_at (slots ps) κs)) → Are (types_at (slots ps) κs) (Ises (types_at (slots ps) κs)) a (vals ps κs a) → Typed (tys ps) (words ps κs a)
     typed [] κs a are = tt
@@ -152,12 +152,12 @@ module _ {n : ℕ} where
 
     twice-one : (p : Part n) (κs : Lfts n) → Copy 𝓛 (row p κs)
     twice-one number κs = uint_copy 𝓛 w64
-    twice-one (slice j ok R) κs = shr_slice_copy 𝓛 (named (suc j)) (lft_at n j ok κs) R
+    twice-one (slice j ok R laws) κs = shr_slice_copy 𝓛 (named (suc j)) (lft_at n j ok κs) R laws
 
     pub twice : (ps : List (Part n)) (κs : Lfts (suc n)) (a : Denots (types_at (slots ps) κs)) (vss : Valss (types_at (slots ps) κs)) → ent 𝓤 (sem 𝓛 (owns (types_at (slots ps) κs) a vss)) (sep 𝓤 (sem 𝓛 (owns (types_at (slots ps) κs) a vss)) (sem 𝓛 (owns (types_at (slots ps) κs) a vss)))
     twice [] κs a vss = qed 𝓛 (‵ ftrue ∷ []) ∵ nothing ! $ done !
     twice (p ∷ ps) κs a vss =
-        let P : Fml = (row p κs.1).own a.0 vss.0 in
+        let P : Fml = (row p κs.1).own_val a.0 vss.0 in
         let Q : Fml = owns (types_at (slots ps) κs) a.1 vss.1 in
         qed 𝓛 ((‵ P ⊛ ‵ Q) ∷ []) ∵ split ! $ use1 𝓛 (‵ P ⊛ ‵ P) ((twice-one p κs.1).twice a.0 vss.0) $ split ! $ move ! (2 ∷ []) $ use1 𝓛 (‵ Q ⊛ ‵ Q) (twice ps κs a.1 vss.1) $ split ! $
         move ! (2 ∷ 0 ∷ []) $ join ! $ move ! (2 ∷ 1 ∷ []) $ join ! $ done !
@@ -233,13 +233,13 @@ module _ {M : Type 1} {𝓤 : Ura M} {𝓛 : Logic 𝓤} {K : Type 0} where
 
   pub allocs_all : K → {Γ : List (Item 𝓤)} (τs : List Ty) {ls : List Local} {Kt : Env 𝓤 H → Goal 𝓤 H} → ((bs : Blocks τs) → Seq K 𝓛 (‵ (rooms τs bs) ∷ Γ) (allocs ls (λ E. Kt (env 𝓛 τs bs E)))) → Seq K 𝓛 Γ (allocs (locals τs ls) Kt)
   allocs_all t [] k = nothing t $ k tt
-  allocs_all t (τ ∷ τs) k = alloc1 t (λ b. allocs_all t τs (λ bs. move t (1 ∷ 2 ∷ 0 ∷ []) $ fjoin3 t $ k (b, bs)))
+  allocs_all t {Γ = Γ} (τ ∷ τs) k = alloc1 t (λ b. allocs_all t {Γ = ‵ (froom τ b zero) ∷ ‵ (fdies τ b) ∷ Γ} τs (λ bs. move t (1 ∷ 2 ∷ 0 ∷ []) $ fjoin3 t $ k (b, bs)))
 
   pub passes_all : K → {Γ : List (Item 𝓤)} (τs : List Ty) (bs : Blocks τs) (vs : List Val) (E : Env 𝓤 H) {g : Goal 𝓤 H} → Typed τs vs → Seq K 𝓛 (‵ (full τs bs vs) ∷ Γ) g → Seq K 𝓛 (‵ (rooms τs bs) ∷ Γ) (passes (env 𝓛 τs bs E) vs g)
   passes_all t [] bs [] E ok s = pass0 t $ s
   passes_all t [] bs (v ∷ vs) E ok s = absurd ok
   passes_all t (τ ∷ τs) bs [] E ok s = absurd ok
-  passes_all t (τ ∷ τs) bs (v ∷ vs) E ok s = fsplit3 t $ pass1 t (init t 0 refl ok.0) $ move t (2 ∷ []) $ passes_all t τs bs.1 vs E ok.1 (move t (1 ∷ 2 ∷ 0 ∷ []) $ fjoin3 t $ s)
+  passes_all t {Γ = Γ} (τ ∷ τs) bs (v ∷ vs) E ok s = fsplit3 t $ pass1 t (init t 0 refl ok.0) $ move t (2 ∷ []) $ passes_all t {Γ = ‵ (fat full_share τ bs.0 zero v) ∷ ‵ (fdies τ bs.0) ∷ Γ} τs bs.1 vs E ok.1 (move t (1 ∷ 2 ∷ 0 ∷ []) $ fjoin3 t $ s)
 
   pub frees_all : K → {Γ : List (Item 𝓤)} (τs : List Ty) (bs : Blocks τs) {E : Env 𝓤 H} {g : Goal 𝓤 H} → Seq K 𝓛 Γ (frees E g) → Seq K 𝓛 (‵ (rooms τs bs) ∷ Γ) (frees (env 𝓛 τs bs E) g)
   frees_all t [] bs s = drop t $ s

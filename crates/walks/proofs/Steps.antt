@@ -1,12 +1,12 @@
 -- Steps for walks by hand that the kit does not have: a local array of numbers that is lent, shared and taken back; several clauses shown or asked at once; a large constant; a local whose number is a variable; all locals freed at once. They say nothing of any crate.
---     ty-rep, wt-rep     an array of k zeros has its type
---     lend-in      an array of k zeros in a local  ⊢  k zeros side by side, which `lends_slice` lends
+--     ty_rep, wt_rep     an array of k zeros has its type
+--     lend_in      an array of k zeros in a local  ⊢  k zeros side by side, which `lends_slice` lends
 --     share_in     what `slice_back` gives of k numbers  ⊢  the whole share of them, which `lends_shr_slice` shares
 --     take_out     the whole share of k numbers  ⊢  room for the array
---     says_both, says_all     `says` for a contract of two and of three clauses.        needs-both     `needs` for two `requires`
+--     says_both, says_all     `says` for a contract of two and of three clauses.        needs_both     `needs` for two `requires`
 --     big          `lit` for a large constant, of which the bound is shown
 --     found        `from` for a local of which the type is known, though its number may be a variable
---     skips-to     an arm that does nothing, where b runs after the branch
+--     skips_to     an arm that does nothing, where b runs after the branch
 --     unmove       `move` undone, for positions that fall.        free_all     all locals are freed, of which each stands as room in the context, in their order (`Rooms`)
 -- Assumes `Logic`.
 use mathlib.Core.Path.{◌≡◌, refl, sym, subst}
@@ -15,7 +15,7 @@ use mathlib.Core.List.{List, [], ◌∷◌}
 use lib.Dec.{T as Holds, lit<}
 use lib.ListN.{replicate}
 use seplogic.Ra.Ura.{Ura}
-use seplogic.Ra.TreeShare.{full_share}
+use base.Fraction.{full_share}
 use mir.Syntax.{Ty, Width, w64, ty_int, ty_array, int_big, Step as PStep, place, Body, skip}
 use mir.Val.{Val, WT, has_ty, vint, Fits}
 use base.Logic.{SProp, ent, sep, id⊢, via, assoc∗, assoc', mono_r, guard_i}

@@ -18,7 +18,7 @@ use sheets::{
 use tables::{Action, Sheet};
 
 // A branch, and the node in it where the next step is taken.
-#[derive(Drop)]
+#[derive(Clone, Copy)]
 pub struct Turn {
     pub branch: usize,
     pub node: usize,

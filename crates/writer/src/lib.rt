@@ -13,7 +13,7 @@ use tables::{Action, Sheet};
 use texts::{put_byte, put_line, put_number, put_word};
 
 // Where writing stands: the position in the text, and the entries that are due next.
-#[derive(Drop)]
+#[derive(Clone, Copy)]
 pub struct Pen {
     pub at: usize,
     pub node: usize,
@@ -29,14 +29,14 @@ impl Pen {
 }
 
 // Where writing stands after a piece of text; or the text has become too long for a sheet.
-#[derive(Drop)]
+#[derive(Clone, Copy)]
 pub enum Put {
     On(Pen),
     Full,
 }
 
 // A branch as far as it is written.
-#[derive(Drop)]
+#[derive(Clone, Copy)]
 pub struct Drawn {
     pub signers: usize,
     pub opens: usize,

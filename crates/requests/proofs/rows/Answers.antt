@@ -31,9 +31,9 @@ loop-at-smaller c = omega arith
 pub loop-at-preserved : goal.loop-at-preserved
 loop-at-preserved c = let l : c.loop-at.i < most_rows = omega arith in let u = c.loop-at.buffer in let i = c.loop-at.i in (
   omega arith,
-  c.put_row.auto.0 ∙ c.loop-at.invariant.1,
+  c.put_row.auto.u ∙ c.loop-at.invariant.1,
   ap (past_rows (i + 1)) c.put_row.ensures ∙ row-rest u i _ ∙ rest_more _ _ _ c.loop-at.invariant.2,
-  rw (c.put_row.ensures, row_more u i _ (omega arith)) (rows_on _ _ _ _ _ _ _ l c.loop-at-test.true c.row_Line.ensures _ _ _ _ c.in-Row.is ∙ c.loop-at.invariant.3),
+  rw (c.put_row.ensures, row_more u i _ (omega arith)) (rows_on _ _ _ _ _ _ _ l c.loop-at-test.true c.row_line-g.ensures _ _ _ _ c.in-Row.is ∙ c.loop-at.invariant.3),
 )
 
 pub shape_of-buffer-in-Bad : goal.shape_of-buffer-in-Bad
@@ -42,7 +42,7 @@ shape_of-buffer-in-Bad c = c.loop-at.invariant.1
 pub returns-in-Bad : goal.returns-in-Bad
 unfolding rows_at
 returns-in-Bad c = let l : c.loop-at.i < most_rows = omega arith in
-    holds _ _ _ _ c.loop-at.i (rows-bad _ _ _ _ _ _ _ l c.loop-at-test.true c.row_Line.ensures _ _ c.in-Bad.is ∙ c.loop-at.invariant.3) c.loop-at.invariant.2
+    holds _ _ _ _ c.loop-at.i (rows-bad _ _ _ _ _ _ _ l c.loop-at-test.true c.row_line-g.ensures _ _ c.in-Bad.is ∙ c.loop-at.invariant.3) c.loop-at.invariant.2
 
 pub shape_of-buffer : goal.shape_of-buffer
 shape_of-buffer c = c.loop-at.invariant.1

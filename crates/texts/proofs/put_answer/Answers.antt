@@ -5,4 +5,4 @@ pub returns-then-number-eq0 : goal.returns-then-number-eq0
 returns-then-number-eq0 c = wrote-taken c.args.line c.args.number c.if-number-eq0.true c.put_taken.ensures
 
 pub returns : goal.returns
-returns c = wrote-refused c.args.line c.args.number c.if-number-eq0.false c.Put-refused.ensures
+returns c = wrote-refused c.args.line c.args.number c.if-number-eq0.false c.put_refused.ensures

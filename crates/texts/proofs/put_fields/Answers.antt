@@ -15,4 +15,4 @@ pub loop-i-preserved : goal.loop-i-preserved
 loop-i-preserved c = let p = c.put_byte-e.ensures in let q = c.put_number-e.ensures in (omega arith, omega (arith, p.end, q.end, decimal-most (get_or c.args.numbers.now c.loop-i.i 0)), q.long ∙ p.long ∙ c.loop-i.invariant.2, wrote-field c.args.numbers.now c.loop-i.i (omega arith) c.loop-i.invariant.3 p q)
 
 pub returns : goal.returns
-returns c = (wrote-fields c.args.numbers.now c.loop-i.i (omega arith) c.loop-i.invariant.3, omega arith)
+returns c = record { wrote = wrote-fields c.args.numbers.now c.loop-i.i (omega arith) c.loop-i.invariant.3; upper_bound = omega arith }

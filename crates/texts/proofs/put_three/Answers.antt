@@ -3,7 +3,7 @@ use Rattle.texts.proofs.Texts.{more-length, wrote-last}
 use Rattle.texts.proofs.put_three.Goals as goal
 
 pub put_two-e-requires : goal.put_two-e-requires
-put_two-e-requires c = let n = c.args.n in (omega arith, omega (arith, more-length n (omega arith) (omega arith)))
+put_two-e-requires c = let n = c.args.n in record { n_bound = omega arith; n_in_bounds = omega (arith, more-length n (omega arith) (omega arith)) }
 
 pub put_byte-requires : goal.put_byte-requires
 put_byte-requires c = let n = c.args.n in omega (arith, more-length n (omega arith) (omega arith))

@@ -1,4 +1,3 @@
 // What reading promises of each entry: its numbers lie within their ranges.
 
 #![tactic(auto)]
-

@@ -1,4 +1,3 @@
 // The trees that a sheet lists.
 
 #![tactic(auto)]
-

@@ -1,4 +1,3 @@
 // What reading a sheet promises, and so demand 3 of every sheet that some text reads to. Nothing here runs.
 
 #![tactic(auto)]
-

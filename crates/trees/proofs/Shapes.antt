@@ -107,13 +107,13 @@ module _ (E : Entries) where
       → Each P n (length E.nodes)
   unfolding Planted
   each-node P f d n b [] h = let e = h.1 in each_none (omega (arith, e))
-  each-node P f d n b (t ∷ ts) h = each-join (f d n b t.contract (first_tree d n b t ts h)) (each-node P f _ _ _ ts h.4)
+  each-node P f d n b (t ∷ ts) h = each-join (f d n b t.contract (first_tree d n b t ts h)) (each-node P f (suc d) (suc n + nodes_in t.contract) (b + branches_in t.contract) ts h.4)
 
   each-branch : (P : ℕ → Type 0) → ((d n b : ℕ) (x : Contract) → Rooted E d n b x → Each P b (b + branches_in x)) → (d n b : ℕ) (ts : List DefTree) → Planted E d n b ts
       → Each P b (length E.branches)
   unfolding Planted
   each-branch P f d n b [] h = let e = h.2 in each_none (omega (arith, e))
-  each-branch P f d n b (t ∷ ts) h = each-join (f d n b t.contract (first_tree d n b t ts h)) (each-branch P f _ _ _ ts h.4)
+  each-branch P f d n b (t ∷ ts) h = each-join (f d n b t.contract (first_tree d n b t ts h)) (each-branch P f (suc d) (suc n + nodes_in t.contract) (b + branches_in t.contract) ts h.4)
 
   all-branches-named : (ts : List DefTree) → Planted E 0 0 0 ts → Each (Names E (length E.nodes)) 0 (length E.branches)
   all-branches-named ts h =
@@ -127,7 +127,7 @@ module _ (E : Entries) where
       let e : (def_entry_at E d).root ≡ n = h.0 in
       each_first
       (record { root = omega (arith, e, r.nodes-fit); own = ap (λ i. (node_entry_at E i).definition) e ∙ h.1.definition; top = ap (λ i. (node_entry_at E i).parent) e ∙ h.1.parent })
-      (all-defs _ _ _ ts h.4)
+      (all-defs (suc d) (suc n + nodes_in t.contract) (b + branches_in t.contract) ts h.4)
 
   first_def : (ts : List DefTree) → Planted E 0 0 0 ts → (def_entry_at E 0).root ≡ 0
   unfolding Planted
@@ -140,16 +140,16 @@ module _ (E : Entries) where
   all-later d n b [] h = let e = h.1 in each_none (omega (arith, e))
   all-later d n b (t ∷ ts) h =
       each-join (each_map (tree_home E d n b t.contract (first_tree d n b t ts h)) λ i p q e. omega (arith, e))
-      (each_map (all-later _ _ _ ts h.4) λ i p q l. omega (arith, l))
+      (each_map (all-later (suc d) (suc n + nodes_in t.contract) (b + branches_in t.contract) ts h.4) λ i p q l. omega (arith, l))
 
   all-rising : (d n b : ℕ) (ts : List DefTree) → Planted E d n b ts → Pairs (λ k l. (node_entry_at E k).definition ≤ (node_entry_at E l).definition) n (length E.nodes)
   unfolding Planted
   all-rising d n b [] h = let e = h.1 in pairs_none (omega (arith, e))
   all-rising d n b (t ∷ ts) h =
       let s = tree_home E d n b t.contract (first_tree d n b t ts h) in
-      let r = all-later _ _ _ ts h.4 in
+      let r = all-later (suc d) (suc n + nodes_in t.contract) (b + branches_in t.contract) ts h.4 in
       pairs_join (record { at = λ k l p q u. let a = s.at k p (omega (arith, q, u)) in let c = s.at l (omega (arith, p, q)) u in omega (arith, a, c) })
-      (all-rising _ _ _ ts h.4)
+      (all-rising (suc d) (suc n + nodes_in t.contract) (b + branches_in t.contract) ts h.4)
       λ k l p q u v. let a = s.at k p q in let c = r.at l u v in omega (arith, a, c)
 
 module _ (E : Entries) (few : length E.branches ≤ most_branches) (ts : List DefTree) (h : Planted E 0 0 0 ts) where

@@ -185,7 +185,7 @@ module _ (E : Entries) where
   unfolding define_all Planted
   all_planted [] l k none h i =
       (ap (λ (y : Listing). length y.defs) h ∙ k.defs, ap (λ (y : Listing). length y.nodes) h ∙ k.nodes, ap (λ (y : Listing). length y.branches) h ∙ k.branches)
-  all_planted (t ∷ ts) l k (more w g) h i = define_planted t ts l k w (before-defs ts (define t l) i) λ k₁. all_planted ts (define t l) k₁ g h i
+  all_planted {d = d} {n = n} {b = b} (t ∷ ts) l k (more w g) h i = define_planted t ts l k w (before-defs ts (define t l) i) λ k₁. all_planted {d = suc d} {n = suc n + nodes_in t.contract} {b = b + branches_in t.contract} ts (define t l) k₁ g h i
 
   -- the trees of a sheet that was read stand in its entries
   pub forest_planted : (f : Forest nothing E) → Planted E 0 0 0 f.trees

@@ -234,12 +234,12 @@ all_weighs E d n b (t ∷ ts) h =
 pub all-nodes : (E : Entries) (d n b : ℕ) (ts : List DefTree) → Planted E d n b ts → n + all_nodes ts ≡ length E.nodes
 unfolding Planted all_nodes
 all-nodes E d n b [] h = let e = h.1 in omega (arith, e)
-all-nodes E d n b (t ∷ ts) h = let r = all-nodes E _ _ _ ts h.4 in omega (arith, r)
+all-nodes E d n b (t ∷ ts) h = let r = all-nodes E (suc d) (suc n + nodes_in t.contract) (b + branches_in t.contract) ts h.4 in omega (arith, r)
 
 pub all-branches : (E : Entries) (d n b : ℕ) (ts : List DefTree) → Planted E d n b ts → b + all_branches ts ≡ length E.branches
 unfolding Planted all_branches
 all-branches E d n b [] h = let e = h.2 in omega (arith, e)
-all-branches E d n b (t ∷ ts) h = let r = all-branches E _ _ _ ts h.4 in omega (arith, r)
+all-branches E d n b (t ∷ ts) h = let r = all-branches E (suc d) (suc n + nodes_in t.contract) (b + branches_in t.contract) ts h.4 in omega (arith, r)
 
 module _ (E : Entries) (ts : List DefTree) (h : Planted E 0 0 0 ts) where
   nodes-are : length E.nodes ≡ all_nodes ts

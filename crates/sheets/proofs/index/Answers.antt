@@ -16,16 +16,16 @@ bucket-requires c = record { keys = keys_branches _ c.requires.ready _ c.branch_
 
 pub bucket-requires-2 : goal.bucket-requires-2
 bucket-requires-2 c = let x = c.args.x.now in
-    let F = c.bucket.new.1.1.1.1.1.0 in
+    let F = c.bucket.new.x in
     let e : length F ≡ length (take parts_from x) = c.x-1.given.0 in
     let y = F ++ drop parts_from x in record { keys = keys_nodes _ c.requires.ready _ c.node_total-nodes.ensures; n_in_bounds = omega (arith, rest-length y parts_from, length-append F (drop parts_from x), length-drop parts_from x, length-take-le parts_from x (omega arith), c.requires.ready.promises.limits.nodes, c.node_total-nodes.ensures) }
 
 pub returns : goal.returns
 returns c = let x = c.args.x.now in
-    let F = c.bucket.new.1.1.1.1.1.0 in
+    let F = c.bucket.new.x in
     let e : length F ≡ length (take parts_from x) = c.x-1.given.0 in
     let y = F ++ drop parts_from x in
-    let G = c.bucket-2.new.1.1.1.1.1.0 in
+    let G = c.bucket-2.new.x in
     let g : length G ≡ length (take (length y - parts_from) (drop parts_from y)) = c.x-2-1.given.0 in
     indexed _ c.requires.ready _ _ F (drop parts_from x) G _ c.branch_total-branches.ensures c.node_total-nodes.ensures (e ∙ length-take-le parts_from x (omega arith))
     (omega (arith, rest-length y parts_from, length-append F (drop parts_from x), length-drop parts_from x, length-take-le parts_from x (omega arith), c.requires.index_long_in_bounds)) c.bucket.ensures c.bucket-2.ensures

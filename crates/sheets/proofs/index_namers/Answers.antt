@@ -4,8 +4,8 @@ use Rattle.sheets.proofs.index_namers.Goals as goal
 
 pub bucket-requires : goal.bucket-requires
 bucket-requires c = let p = c.requires in let e = c.branch_total-branches.ensures in
-    record { keys = keys_arguments _ p.0 _ e; n_in_bounds = omega (arith, p.0.promises.limits.branches, p.1) }
+    record { keys = keys_arguments _ p.ready _ e; n_in_bounds = omega (arith, p.ready.promises.limits.branches, p.namers_long_in_bounds) }
 
 pub returns : goal.returns
 returns c = let p = c.requires in
-    named _ p.0 _ _ c.branch_total-branches.ensures (omega (arith, p.1)) c.bucket.ensures
+    named _ p.ready _ _ c.branch_total-branches.ensures (omega (arith, p.namers_long_in_bounds)) c.bucket.ensures

@@ -13,13 +13,13 @@ pub part_of-n-requires : goal.part_of-n-requires
 part_of-n-requires c = let a = c.args in record { ready = c.requires.ready; indexed = c.requires.indexed; b_in_bounds = (c.requires.b_in_bounds.0, omega (arith, c.part_count-count.ensures)) }
 
 pub node_weight-sum-requires : goal.node_weight-sum-requires
-node_weight-sum-requires c = let a = c.args in let l = c.loop-i in let z = part_small (held a.t.now) a.b l.i (omega (arith, c.part_count-count.ensures)) in record { ready = c.requires.ready; n_in_bounds = omega (arith, c.part_of_lem.ensures) }
+node_weight-sum-requires c = let a = c.args in let l = c.loop-i in let z = part_small (held a.t.now) a.b l.i (omega (arith, c.part_count-count.ensures)) in record { ready = c.requires.ready; n_in_bounds = omega (arith, c.part_of-n.ensures) }
 
 pub overflow_add-sum : goal.overflow_add-sum
 overflow_add-sum c = let a = c.args in let l = c.loop-i in let E = held a.t.now in let P = c.requires.ready.promises in
     let p = (P.node (part_number E a.b l.i) (part_small E a.b l.i (omega (arith, c.part_count-count.ensures)))).weight in
     let s = ((P.branch a.b c.requires.b_in_bounds.0).split c.requires.b_in_bounds.1).few in
-    let e = c.node_weight-sum.ensures ∙ ap (λ n. (node_entry_at E n).weight) c.part_of_lem.ensures in
+    let e = c.node_weight-sum.ensures ∙ ap (λ n. (node_entry_at E n).weight) c.part_of-n.ensures in
     omega (arith, l.invariant.0, l.invariant.1, c.part_count-count.ensures)
 
 pub overflow_add-i : goal.overflow_add-i
@@ -31,7 +31,7 @@ loop-i-smaller c = let a = c.args in let l = c.loop-i in omega (arith, c.part_co
 pub loop-i-preserved : goal.loop-i-preserved
 loop-i-preserved c = let a = c.args in let l = c.loop-i in let E = held a.t.now in let P = c.requires.ready.promises in
     let p = (P.node (part_number E a.b l.i) (part_small E a.b l.i (omega (arith, c.part_count-count.ensures)))).weight in
-    let e = c.node_weight-sum.ensures ∙ ap (λ n. (node_entry_at E n).weight) c.part_of_lem.ensures in
+    let e = c.node_weight-sum.ensures ∙ ap (λ n. (node_entry_at E n).weight) c.part_of-n.ensures in
     let z = sum_more (weight_at E a.b) l.i (part_count E a.b) (omega (arith, c.part_count-count.ensures)) in
     (omega (arith, c.part_count-count.ensures), omega (arith, l.invariant.1), omega (arith, l.invariant.2))
 

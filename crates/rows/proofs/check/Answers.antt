@@ -12,8 +12,8 @@ first_fault-f-requires c = let p = c.requires in record { ready = p.ready; p_bou
 
 pub returns-then-f-ne0 : goal.returns-then-f-ne0
 returns-then-f-ne0 c = let a = c.args in let f = c.first_fault-f in let R = rows_of a.n a.rows.now in
-    answer-refused R (as_fault f.result) c.if-f-ne0.true ∙ ap (answer_of R) f.ensures.0
+    answer-refused R (as_fault f.result) c.if-f-ne0.true ∙ ap (answer_of R) f.ensures.result_value
 
 pub returns : goal.returns
 returns c = let a = c.args in let f = c.first_fault-f in let R = rows_of a.n a.rows.now in
-    answer-liquid R (as_fault f.result) a.n _ c.if-f-ne0.false (rows-length a.n a.rows.now) ((f.ensures.1 c.if-f-ne0.false).rank 0) ∙ ap (answer_of R) f.ensures.0
+    answer-liquid R (as_fault f.result) a.n _ c.if-f-ne0.false (rows-length a.n a.rows.now) ((f.ensures.known_2 c.if-f-ne0.false).rank 0) ∙ ap (answer_of R) f.ensures.result_value

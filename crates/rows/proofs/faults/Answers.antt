@@ -21,7 +21,7 @@ row_rank-rank-requires c = omega (arith, c.requires.rows_fit.long)
 
 pub wrong-number-requires : goal.wrong-number-requires
 wrong-number-requires c = let p = c.requires in let a = c.args in let i = c.loop-i.i in let h : i < a.n = omega arith in
-    rw (c.row_node-node.ensures, c.row_branch-branch.ensures) (p.ready, ((p.p_bound, (p.rows_fit.each i h).has-node, row-branch a.t.now a.rows.now a.n p.ready p.rows_fit i h), (p.known.most, p.indexed)))
+    rw (c.row_node-node.ensures, c.row_branch-branch.ensures) (record { ready = p.ready; p_bound = (p.p_bound, (p.rows_fit.each i h).has-node, row-branch a.t.now a.rows.now a.n p.ready p.rows_fit i h); by_index = p.known.most; indexed = p.indexed })
 
 pub returns-then-number-ne0 : goal.returns-then-number-ne0
 returns-then-number-ne0 c = let a = c.args in let p = c.requires in let l = c.loop-i in let h : l.i < a.n = omega arith in

@@ -15,7 +15,7 @@ index-order-requires c = let a = c.args in let p = c.requires in record { rows_s
 
 pub returns-then-order-ne0 : goal.returns-then-order-ne0
 returns-then-order-ne0 c = let a = c.args in let i = c.index-order in
-    record { result_value = check-order (sheet_in a.t.now) a.p (rows_of a.n a.rows.now) (as_fault i.result) i.ensures.0 c.if-order-ne0.true; known_2 = λ z. absurd (c.if-order-ne0.true z) }
+    record { result_value = check-order (sheet_in a.t.now) a.p (rows_of a.n a.rows.now) (as_fault i.result) i.ensures.result_value c.if-order-ne0.true; known_2 = λ z. absurd (c.if-order-ne0.true z) }
 
 pub returns-then-ranks-root-eq0 : goal.returns-then-ranks-root-eq0
 returns-then-ranks-root-eq0 c = let a = c.args in let p = c.requires in let i = c.index-order.ensures in let z = c.if-order-ne0.false in let A = c.index-order.new.ranks in

@@ -5,7 +5,7 @@ use lib.ListN.{length}
 use Rattle.tables.specs.Entries.{held}
 use Rattle.pages.specs.Pages.{pages_in}
 use Rattle.counts.specs.Book.{book}
-use Rattle.counts.proofs.Splitting.{splits_start, splits_on_by, splits_end_by, made-room, part_in, parts-few, share_by}
+use Rattle.counts.proofs.Splitting.{splits_start, splits_on_by, splits_end_by, made-room, part_in, weight-some, parts-few, share_by}
 use Rattle.counts.proofs.Counts.make_parts.Goals as goal
 
 pub part_count-count-requires : goal.part_count-count-requires
@@ -28,6 +28,9 @@ node_weight-requires c = let a = c.args in let p = c.requires in let u = p.q_in_
 
 pub overflow_mul-share : goal.overflow_mul-share
 overflow_mul-share c = let a = c.args in let p = c.requires in let u = p.q_in_bounds in let l = c.loop-i in omega (arith, share_by a.t.now (book a.self (pages_in a.cells.now)) a.q a.v a.set p.ready u.0 u.1 u.3 u.4 (book l.self (pages_in l.cells)) l.left l.i l.invariant.1 c.part_of-n.ensures c.node_weight.ensures c.weigh-total.ensures u.2)
+
+pub nonzero_div-share : goal.nonzero_div-share
+nonzero_div-share c = let a = c.args in let p = c.requires in let u = p.q_in_bounds in let l = c.loop-i in omega (arith, c.weigh-total.ensures, weight-some a.t.now (book a.self (pages_in a.cells.now)) a.q a.v a.set p.ready u.0 u.1 u.3 u.4)
 
 pub put_contract-requires : goal.put_contract-requires
 put_contract-requires c = let a = c.args in let p = c.requires in let u = p.q_in_bounds in let l = c.loop-i in (omega (arith, l.invariant.0, p.cells_long_in_bounds), made-room a.t.now (book a.self (pages_in a.cells.now)) a.q a.v a.set p.ready u.0 u.1 u.3 u.4 (book l.self (pages_in l.cells)) l.left l.i l.invariant.1)

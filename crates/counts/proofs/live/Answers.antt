@@ -17,8 +17,9 @@ loop-c-preserved c = let a = c.args in let l = c.loop-c in
     let A = pages_in a.cells.now pages.lives in
     let z = sum_more (lives A) l.c a.made (omega arith) in
     let k : (c.if-is_alive.n ≡ l.n + lives A l.c) × (lives A l.c ≤ 1) = elim c.if-is_alive.branch [
-      then-is_alive w ↦ let e = lives_yes A l.c (sym c.is_alive.ensures ∙ w.if-is_alive.true) in (omega arith, omega arith)
-      | else-is_alive w ↦ let e = lives_no A l.c (sym c.is_alive.ensures ∙ w.if-is_alive.false) in (omega arith, omega arith) ] in
+      | then-is_alive w ↦ let e = lives_yes A l.c (sym c.is_alive.ensures ∙ w.if-is_alive.true) in (omega arith, omega arith)
+      | else-is_alive w ↦ let e = lives_no A l.c (sym c.is_alive.ensures ∙ w.if-is_alive.false) in (omega arith, omega arith)
+    ] in
     (omega arith, omega (arith, k, l.invariant), omega (arith, k, l.invariant))
 
 pub returns : goal.returns

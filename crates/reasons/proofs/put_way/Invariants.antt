@@ -1,0 +1,18 @@
+use mathlib.Core.Path.{◌≡◌}
+use mathlib.Core.List.{map}
+use Prim.Native.Nat.{◌+◌, ◌*◌, ◌≤◌, ◌<◌}
+use lib.ListN.{length, get_or}
+use Rattle.bitml.specs.Why.{steps_to}
+use Rattle.bitml.specs.Answers.{step_line}
+use Rattle.tables.specs.Entries.{held, most_nodes}
+use Rattle.tables.specs.SheetOf.{sheet_in}
+use Rattle.texts.specs.Text.{lines_text}
+use Rattle.texts.proofs.Coming.{Coming}
+use Rattle.reasons.proofs.Reasons.{way_from}
+use Rattle.reasons.proofs.put_way.Given as goal
+
+abbrev pub invariant-loop-n : goal.invariant-loop-n
+invariant-loop-n l = (l.n < length (held l.t).nodes) × (0 < get_or l.dist l.n 0) × (l.e + 80 * get_or l.dist l.n 0 ≤ l.at + 80 * (most_nodes + 1)) × (length l.text ≡ length l.initial.text) × Coming l.initial.text l.at (lines_text (map step_line (steps_to (sheet_in l.t) l.target))) l.text l.e (way_from (sheet_in l.t) l.target l.dist l.n)
+
+abbrev pub decreases-loop-n : goal.decreases-loop-n
+decreases-loop-n l = get_or l.dist l.n 0

@@ -1,4 +1,2 @@
 pub mod Reading
-pub mod Held
-pub mod Method
-pub mod Deeds
+pub mod Handing

@@ -1,6 +1,9 @@
 -- A play on its way, from event to event. Assumes nothing.
 use mathlib.Core.Path.{◌≡◌, refl, sym, subst, ◌∙◌}
-use Prim.Native.Nat.{ℕ, ◌+◌, ◌-◌, ◌≤◌, ◌<◌}
+use Prim.Native.Nat.{ℕ, suc, ◌+◌, ◌-◌, ◌≤◌, ◌<◌}
+use mathlib.Core.Bool.{Bool, true, false, cond}
+use lib.Dec.{ltb}
+use borrow.Author.Tests.{ltb-true}
 use native.Mathlib.Omega.{arith}
 use mathlib.Core.List.{List}
 use lib.ListN.{length}
@@ -60,7 +63,7 @@ module _ (s t : List ℕ) (to first : ℕ) (text₀ : List ℕ) where
         subst (λ (l : Plain). Wrote text₀ 0 (play_text (sheet_in t) l first (events_of s (people t) to)) v k) q (goes_end s t to first text₀ l₀ u (book c (pages_in zs)) at d.line d.end p.goes (p.due.over h) v k w)
 
     module _ (more : d.kind < 5) where
-      within : (at < d.next) × (d.next ≤ length s)
+      pub within : (at < d.next) × (d.next ≤ length s)
       within = line-within s (people t) at (p.due.more more) p.goes.good (event_at s (people t) at) refl 0 d.next (p.due.next more)
 
       pub plays-inside : d.next ≤ length s
@@ -84,3 +87,11 @@ module _ (s t : List ℕ) (to first : ℕ) (text₀ : List ℕ) where
           } in
           let a = goes_more s t to first text₀ l₀ u l at d.line d.end p.goes (p.due.more more) x refl m d.next mv p.due.bytes few low v r.end b.wrote in
           record { goes = subst (λ (n : ℕ). Goes s t to first text₀ l₀ v m d.next n r.end) (sym b.due.line) a; due = own-due b.due; long = long }
+
+-- What is left behind the event that is due, and one more, falls from event to event: the next one starts where this one ends, and none may be left
+pub left_falls : (len n kind next : ℕ) → (kind < 5 → (n < next) × (next ≤ len)) → cond (ltb kind 5) (suc (len - next)) 0 < suc (len - n)
+left_falls len n kind next f = go (ltb kind 5) refl
+  where
+    go : (b : Bool) → ltb kind 5 ≡ b → cond b (suc (len - next)) 0 < suc (len - n)
+    go true e = let w = f (ltb-true kind 5 e) in omega (arith, w.0, w.1)
+    go false e = omega arith

@@ -3,4 +3,3 @@ pub mod Entry
 pub mod Lending
 pub mod Printing
 pub mod Refusals
-pub mod Walking

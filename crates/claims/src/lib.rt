@@ -1,4 +1,3 @@
 // All that is claimed, in one record. Nothing here runs.
 
 #![tactic(auto)]
-

@@ -9,8 +9,8 @@ ghost use Rattle.judge.specs.Input.{Within};
 
 use buffer::ALL_NUMBERS;
 use checker::judge_text;
-use libc::{STDIN_FILENO, STDOUT_FILENO};
 use replies::{BYTES, Reply};
+use std::io::{Read, Write};
 
 // Of a request that is too long, one byte more than the longest is read.
 const READ: usize = BYTES + 1;
@@ -22,18 +22,17 @@ enum Input {
     Failed,
 }
 
-// Reads until the buffer is full, the input ends or a read fails. `io::read_full` doesn't tell the
-// last two apart.
-fn read_whole(fd: i32, buffer: &mut [u8]) -> Input
+// Reads until the buffer is full, the input ends or a read fails. `read_to_end` would go on where a
+// signal breaks a read off.
+fn read_whole<R: Read>(input: &mut R, buffer: &mut [u8]) -> Input
     ensures { Within result buffer.new }
 {
     let mut n = 0;
     while n < buffer.len() {
-        let got = libc::read(fd, &mut buffer[n..]);
-        if got < 0 {
+        let got = input.read(&mut buffer[n..]);
+        let Ok(more) = got else {
             return Input::Failed;
-        }
-        let more = io::count(got, &buffer[n..]);
+        };
         if more == 0 {
             return Input::Whole(n);
         }
@@ -42,13 +41,14 @@ fn read_whole(fd: i32, buffer: &mut [u8]) -> Input
     Input::Whole(n)
 }
 
-fn main() {
+fn main(rt: HostRuntime) {
     let mut request = [0u8; READ];
-    let Input::Whole(n) = read_whole(STDIN_FILENO, &mut request) else {
+    let Input::Whole(n) = read_whole(&mut rt.stdin(), &mut request) else {
         return;
     };
     let mut numbers = [0usize; ALL_NUMBERS];
     let mut text = [0u8; Reply::TEXT];
     let m = judge_text(&request[..n], &mut numbers, &mut text);
-    io::write_all(STDOUT_FILENO, &text[..m]);
+    // Nobody is left to be told where a write fails.
+    let _ = rt.stdout().write_all(&text[..m]);
 }

@@ -154,8 +154,7 @@ fn judge_rows(s: &[u8], numbers: &mut [usize], rows: &mut [Row], text: &mut [u8]
 }
 
 // The entry for callers whose rows are structs.
-#[unsafe(no_mangle)]
-pub extern "C" fn hurkoxel_judge(s: &[u8], rows: &mut [Row], text: &mut [u8]) -> Reply
+pub fn hurkoxel_judge(s: &[u8], rows: &mut [Row], text: &mut [u8]) -> Reply
     ensures value { result ≡ reply_of (answer_to s.now (length rows.old) (length text.old)) }
     ensures rows_after { rows.new ≡ places_of (length rows.old) (answer_to s.now (length rows.old) (length text.old)) }
     ensures text_after { text.new ≡ bytes_of (length text.old) (answer_to s.now (length rows.old) (length text.old)) }
@@ -192,21 +191,14 @@ pub fn judge_text(s: &[u8], numbers: &mut [usize], text: &mut [u8]) -> usize
     refused_line(r.number, r.line, r.field, text)
 }
 
-#[unsafe(no_mangle)]
-pub extern "C" fn hurkoxel_refused_line(
-    number: usize,
-    line: usize,
-    field: usize,
-    text: &mut [u8],
-) -> usize
+pub fn hurkoxel_refused_line(number: usize, line: usize, field: usize, text: &mut [u8]) -> usize
     ensures { Wrote text.old 0 (refused_in (length text.old) number line field) text.new result }
 {
     refused_line(number, line, field, text)
 }
 
 // A text of line 1 and `def` lines, read into a table.
-#[unsafe(no_mangle)]
-pub extern "C" fn hurkoxel_read_sheet(text: &[u8], cells: &mut [usize]) -> Reply
+pub fn hurkoxel_read_sheet(text: &[u8], cells: &mut [usize]) -> Reply
     ensures value { result ≡ reply_to text.now (loading text.now (length cells.old)) }
     ensures cells_after { cells.new ≡ cells_of (length cells.old) (loading text.now (length cells.old)) }
 {
@@ -214,8 +206,7 @@ pub extern "C" fn hurkoxel_read_sheet(text: &[u8], cells: &mut [usize]) -> Reply
 }
 
 // The text of a table's sheet.
-#[unsafe(no_mangle)]
-pub extern "C" fn hurkoxel_write_sheet(cells: &[usize], text: &mut [u8]) -> Reply
+pub fn hurkoxel_write_sheet(cells: &[usize], text: &mut [u8]) -> Reply
     ensures value { result ≡ saved.reply_of (saving cells.now (length text.old)) }
     ensures text_after { text.new ≡ saved.bytes_of text.old (saving cells.now (length text.old)) }
 {

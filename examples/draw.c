@@ -1,7 +1,7 @@
 /* A drawing tool in C: it fills a table by hand, writes its text and has it judged, loads the text again, moves the
  * deadline and writes it back.
  *
- *     rt staticlib checker
+ *     tools/build library
  *     cc -O2 -std=c11 -Wall -Iinclude examples/draw.c target/staticlib/libchecker.a -o target/draw
  *     target/draw
  */

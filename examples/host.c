@@ -1,6 +1,6 @@
 /* A resident host in C: one pair of buffers, lent for every request and never cleared.
  *
- *     rt staticlib checker
+ *     tools/build library
  *     cc -O2 -std=c11 -Wall -Iinclude examples/host.c target/staticlib/libchecker.a -o target/host
  *     (cat examples/zcb.txt; echo make,0) > target/zcb.request
  *     target/host target/zcb.request target/zcb.request

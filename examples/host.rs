@@ -1,7 +1,7 @@
 //! A resident host in Rust: one pair of buffers, lent for every request and never cleared.
 //!
 //! ```text
-//! rt staticlib checker
+//! tools/build library
 //! rustc -O --edition 2021 -L target/staticlib -l static=checker examples/host.rs -o target/host
 //! (cat examples/zcb.txt; echo make,0) > target/zcb.request
 //! target/host target/zcb.request target/zcb.request

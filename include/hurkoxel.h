@@ -1,6 +1,6 @@
 /* Hurkoxel: a liquidity checker for BitML contracts, as a static library.
  *
- * Link target/staticlib/libchecker.a (made by `rt staticlib checker`, for x86-64 Linux). The library allocates nothing
+ * Link target/staticlib/libchecker.a (made by tools/build, for x86-64 Linux). The library allocates nothing
  * and keeps nothing between calls; its tables stand on the caller's stack, for which 1 MiB is enough: a thread that
  * calls it must have as much.
  * Calls from several threads are independent as long as each lends buffers of its own. What is said here in words of

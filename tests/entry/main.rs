@@ -1,7 +1,7 @@
 //! The entry of the static library against the model, and against requests by hand.
 //!
 //! ```text
-//! rt staticlib checker
+//! tools/build library
 //! rustc -O --edition 2021 -L target/staticlib -l static=checker tests/entry/main.rs -o target/tests/entry
 //! target/tests/entry [SEED COUNT [EXAMPLES [CASES]]]
 //!     1, 20000, examples and tests/cases if not given

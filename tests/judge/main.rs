@@ -2,7 +2,7 @@
 //! outputs that fail, and with arguments.  tests/stack has its stacks and environments.
 //!
 //! ```text
-//! rt check judge
+//! tools/build program
 //! rustc -O --edition 2021 tests/judge/main.rs -o target/tests/judge
 //! target/tests/judge [JUDGE [SHEET [CASES]]]
 //!     target/bin/judge, examples/timed_commitment.txt and tests/cases if not given

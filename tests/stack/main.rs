@@ -2,7 +2,7 @@
 //! arguments and an environment of up to 256 KiB.
 //!
 //! ```text
-//! rt staticlib checker && rt check judge
+//! tools/build
 //! rustc -O --edition 2021 -L target/staticlib -l static=checker tests/stack/main.rs -o target/tests/stack
 //! target/tests/stack [JUDGE]       target/bin/judge if not given
 //! target/tests/stack on KIB NAME   one request, answered in this process by a thread with such a stack

@@ -1,7 +1,7 @@
 -- Laws of actions: what an own action is not, and what firing makes of it. Assumes nothing.
 use mathlib.Core.Path.{◌≡◌, refl, ap}
 use Prim.Native.Nat.{ℕ, ◌+◌, ◌-◌, ◌*◌, ◌/◌}
-use mathlib.Core.Bool.{true, false, not, false≢true}
+use mathlib.Core.Bool.{true, not, false≢true}
 use mathlib.Core.List.{List, [], ◌∷◌, map}
 use Rattle.bitml.specs.Lists.{sum, All, nil, cons}
 use Rattle.bitml.specs.Sheet.{Sheet, Part, Branch, Action, withdraw, split, reveal, renew_as, node_at, def_at, parts}

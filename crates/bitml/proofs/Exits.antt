@@ -10,7 +10,7 @@ use lib.ListN.{length, get_or, drop}
 use lib.Seq.{get_or-drop}
 use lib.Dec.{eqb, ltb, leb}
 use borrow.Author.Tests.{eqb-true, eqb-false, ltb-true, ltb-false, leb-true, leb-false, lt-ltb, le-ltb}
-use Rattle.bitml.specs.Lists.{◌&◌, ◌or◌, sum, every, any, up_from, All, nil, cons}
+use Rattle.bitml.specs.Lists.{◌&◌, ◌or◌, sum, every, up_from, All, nil, cons}
 use Rattle.bitml.specs.Sheet.{Sheet, Node, no_node, branches_at, branch_at, node_at, parts}
 use Rattle.bitml.specs.Runs.{OwnStep, own_step, Run, done, more, Exit, next, own}
 use Rattle.bitml.specs.Promises.{WellFormed}

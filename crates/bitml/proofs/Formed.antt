@@ -1,13 +1,13 @@
 -- The promises as a test that computes: so the starred sheets keep them. Assumes nothing.
-use mathlib.Core.Path.{◌≡◌, refl, subst}
+use mathlib.Core.Path.{◌≡◌, refl}
 use Prim.Native.Nat.{ℕ, ◌<◌}
 use native.Mathlib.Omega.{arith}
 use mathlib.Core.Bool.{Bool, true}
-use mathlib.Core.List.{List, [], ◌∷◌, Memᴰ}
+use mathlib.Core.List.{Memᴰ}
 use lib.ListN.{length}
 use lib.Dec.{eqb, ltb}
 use borrow.Author.Tests.{eqb-true, ltb-true, lt-ltb, le-ltb}
-use Rattle.bitml.specs.Lists.{◌&◌, every, below, All, nil, cons}
+use Rattle.bitml.specs.Lists.{◌&◌, every, below, nil, cons}
 use Rattle.bitml.specs.Sheet.{Sheet, Branch, Action, withdraw, split, reveal, renew_as, no_node, node_at, no_branch, branches_at, branch_at, def_at, parts}
 use Rattle.bitml.specs.Promises.{WellFormed}
 use Rattle.bitml.specs.Stars.{branch, node, halves, sheet, T, M, D, R, On, Seven, Promised}

@@ -1,4 +1,4 @@
--- The numbers by which a table tells actions, conditions and expressions apart. This is the one place that knows them. Assumes nothing.
+-- Names for the numbers by which a table tells actions, conditions and expressions apart. Assumes nothing.
 use Rattle.std.specs.Prelude.{ℕ, zero, suc}
 
 -- ---- "action: `w`,p .. `s`,n .. `r`, count .. `g`,d": the kind of a branch

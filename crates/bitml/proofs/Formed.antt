@@ -57,7 +57,7 @@ module _ (s : Sheet) (f : formed s ≡ true) where
       record {
         some-def = ltb-true _ _ (and_l _ _ f);
         part_after = λ n b m h hm. (ltb-true _ _ (and_l _ _ (part_fits_lem n b m h hm)), ltb-true _ _ (and_l _ _ (and_r _ _ (part_fits_lem n b m h hm))));
-        part_of_lem = λ n b m h hm. eqb-true _ _ (and_r _ _ (and_r _ _ (part_fits_lem n b m h hm)));
+        part_of = λ n b m h hm. eqb-true _ _ (and_r _ _ (and_r _ _ (part_fits_lem n b m h hm)));
         root_in = λ d h. ltb-true _ _ (and_l _ _ (root-fits d h));
         root_of = λ d h. eqb-true _ _ (and_r _ _ (root-fits d h));
         renewal_in = λ n b d h e. renews_in_lem _ d _ e (and_l _ _ (branch_fits_lem n b h));

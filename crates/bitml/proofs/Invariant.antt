@@ -91,7 +91,7 @@ module _ (s : Sheet) (wf : WellFormed s) (p : ℕ) (R : List Row) (ok : InAnyOrd
       record {
         row = (served n f.row).closed b m hb (subst (Memᴰ m) (sym (parts_next s (branch_at s n b).action na)) hm);
         range = f.range;
-        same = f.same ∙ sym (wf.part_of_lem n b m hb hm);
+        same = f.same ∙ sym (wf.part_of n b m hb hm);
       }
 
   -- What a renewal of branch b makes fits the sets with its own behind them

@@ -8,7 +8,7 @@ pub record WellFormed (s : Sheet) : Type 0 where
   pub some-def : 0 < length s.defs
   -- A contract in a branch stands behind the branch's node, in the same definition
   pub part_after : (n b m : ℕ) → b < length (branches_at s n) → Memᴰ m (parts (branch_at s n b).action) → (n < m) × (m < length s.nodes)
-  pub part_of_lem : (n b m : ℕ) → b < length (branches_at s n) → Memᴰ m (parts (branch_at s n b).action) → (node_at s m).definition ≡ (node_at s n).definition
+  pub part_of : (n b m : ℕ) → b < length (branches_at s n) → Memᴰ m (parts (branch_at s n b).action) → (node_at s m).definition ≡ (node_at s n).definition
   -- Each definition's root is a node of that definition
   pub root_in : (d : ℕ) → d < length s.defs → (def_at s d).root < length s.nodes
   pub root_of : (d : ℕ) → d < length s.defs → (node_at s (def_at s d).root).definition ≡ d

@@ -4,7 +4,7 @@ use Prim.Native.Nat.{ℕ, zero, suc, ◌+◌, ◌-◌, ◌*◌, ◌≤◌, ◌<�
 use mathlib.Core.List.{List, [], ◌∷◌, ◌++◌, map, append_assoc, append-nil}
 use native.Mathlib.Numerals.{add-one}
 use native.Mathlib.Omega.{arith}
-use lib.ListN.{length, take, drop, get_or, set, replicate, length-append, length-map, length-replicate}
+use lib.ListN.{length, take, drop, get_or, set, replicate, length-append, length-drop, length-map, length-replicate}
 use lib.Seq.{length-take-le, take-suc, take-length, drop-cons, drop-length, set_at, ext_get_or}
 use Rattle.bitml.specs.Lists.{below}
 use Rattle.bitml.specs.Rows as bitml
@@ -42,6 +42,11 @@ abbrev pub written : List ℕ → List Row → ℕ → List Row
 written xs ys i = take i (structs (length ys) xs) ++ drop i ys
 
 module _ (xs : List ℕ) (ys : List Row) (i : ℕ) where
+  pub written-length : i ≤ length ys → length (written xs ys i) ≡ length ys
+  written-length h =
+      let l = structs-length (length ys) xs in
+      omega (arith, length-append (take i (structs (length ys) xs)) (drop i ys), length-take-le i (structs (length ys) xs) (omega (arith, l)), length-drop i ys)
+
   pub written_next : i < length ys → set (written xs ys i) i (struct_at xs i) ≡ written xs ys (i + 1)
   written_next h =
       let zs = structs (length ys) xs in

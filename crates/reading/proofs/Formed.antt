@@ -171,7 +171,7 @@ module _ (K : ℕ) (E : Entries) (ok : Promises K E) where
   well_formed_lem = record {
     some-def = omega (arith, defs-are K E, ok.limits.defs.0);
     part_after = λ n b m h hm. let w = contract n b m h hm in (w.0, subst (λ k. m < k) (sym (nodes-are K E)) w.1);
-    part_of_lem = λ n b m h hm. let w = contract n b m h hm in node-def K E m w.1 ∙ w.2 ∙ sym (node-def K E n (in_nodes n b h));
+    part_of = λ n b m h hm. let w = contract n b m h hm in node-def K E m w.1 ∙ w.2 ∙ sym (node-def K E n (in_nodes n b h));
     root_in = λ d h.
         let hd = subst (λ k. d < k) (defs-are K E) h in
         omega (arith, (ok.def d hd).root, nodes-are K E, root_is K E d hd);

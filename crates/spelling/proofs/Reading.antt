@@ -67,7 +67,7 @@ appearing-home s wf (suc d) n =
     cons refl
     (all-gather (λ b. gather (appearing s d) (parts b.action)) (all_by_at _ (branches_at s n) no_branch λ b h.
     all-gather (appearing s d) (all-mem _ (parts (branch_at s n b).action) λ m k.
-    all_imp (λ i e. e ∙ wf.part_of_lem n b m h k) (appearing-home s wf d m))))
+    all_imp (λ i e. e ∙ wf.part_of n b m h k) (appearing-home s wf d m))))
 
 -- ---- the sheet
 

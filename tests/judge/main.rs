@@ -43,9 +43,6 @@ const PATIENCE: Duration = Duration::from_secs(300);
 /// Between pieces, so that mostly the program waits for the next; no answer hangs on it.
 const PAUSE: Duration = Duration::from_millis(20);
 const OK: &str = "exit status: 0";
-const SIGPIPE: &str = "signal: 13 (SIGPIPE)";
-/// As a shell has it that waited for the program.
-const AFTER_SIGPIPE: &str = "exit status: 141";
 
 // ---------------------------------------------------------------------------------------------
 // Requests and what is due
@@ -362,26 +359,27 @@ impl Test {
         }
         // The reader goes away after so many bytes, and more are due than a pipe holds.
         let name = "a reader that goes away";
-        for (script, due) in [("exec \"$0\"", SIGPIPE), ("trap '' PIPE; exec \"$0\"", OK)] {
+        // The program ignores SIGPIPE from its start on, so that the write fails.
+        for script in ["exec \"$0\"", "trap '' PIPE; exec \"$0\""] {
             for first in [10_000, 0] {
                 let (mut reader, writer) = pipe()?;
                 let child = self.shell(script, pieces(&[&request])?, writer)?;
                 let mut got = vec![0; first];
                 reader.read_exact(&mut got)?;
                 drop(reader);
-                self.ends(name, due, child)?;
+                self.ends(name, OK, child)?;
                 self.cut(name, &answer, &got);
             }
         }
         // It went away before anything is written.
-        for (script, due) in [
-            ("exec \"$0\"", SIGPIPE),
-            ("\"$0\"; exit $?", AFTER_SIGPIPE),
-            ("trap '' PIPE; exec \"$0\"", OK),
+        for script in [
+            "exec \"$0\"",
+            "\"$0\"; exit $?",
+            "trap '' PIPE; exec \"$0\"",
         ] {
             let (_, writer) = pipe()?;
             let child = self.shell(script, pieces(&[&r.make])?, writer)?;
-            self.ends("a reader that is gone", due, child)?;
+            self.ends("a reader that is gone", OK, child)?;
         }
         Ok(())
     }

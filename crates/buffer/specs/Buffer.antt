@@ -4,6 +4,7 @@ use Rattle.std.proofs.lemmas.List.Edits.{sets}
 use Rattle.bitml.specs.Rows.{Row}
 use Rattle.bitml.specs.Answers.{places_of_one}
 use Rattle.tables.specs.Entries.{flat, first_of}
+use Rattle.buffer.specs.declared.Row.{Row as Code}
 
 -- ---- a place
 
@@ -14,6 +15,10 @@ row_wide = 3
 -- "`row`,node,branch,rank"
 abbrev pub row : ℕ → ℕ → ℕ → Row
 row n b k = record { node = n; branch = b; rank = k }
+
+-- the row that the code's struct is
+abbrev pub as_row : Code → Row
+as_row r = row r.node r.branch r.rank
 
 -- the numbers of a row, in the order in which they stand
 unfoldable pub row_cells : Row → List ℕ

@@ -3,7 +3,7 @@
 #![tactic(auto)]
 
 ghost use Rattle.std.specs.Prelude.{◌≡◌, [], ◌+◌, ◌*◌, ◌≤◌, length};
-ghost use Rattle.buffer.specs.Buffer.{row_wide, row, row_in, stored, rows_of, filled};
+ghost use Rattle.buffer.specs.Buffer.{row_wide, as_row, row_in, stored, rows_of, filled};
 
 // How many numbers a place has.
 pub const ROW_WIDE: usize = 3;
@@ -17,48 +17,45 @@ pub const NUMBERS: usize = ROW_WIDE * PLACES;
 
 pub const ALL_NUMBERS: usize = ROW_WIDE * ALL_PLACES;
 
-// The numbers of the row in place i.
-pub fn row_node(u: &[usize], i: usize) -> usize
-    requires { row_wide * i + row_wide ≤ length u.now }
-    ensures { result ≡ (row_in u.now i).node }
-{
-    u[ROW_WIDE * i]
+// The numbers of a place.
+#[derive(Clone, Copy)]
+pub struct Row {
+    pub node: usize,
+    pub branch: usize,
+    pub rank: usize,
 }
 
-pub fn row_branch(u: &[usize], i: usize) -> usize
+// The row in place i.
+pub fn row_at(u: &[usize], i: usize) -> Row
     requires { row_wide * i + row_wide ≤ length u.now }
-    ensures { result ≡ (row_in u.now i).branch }
+    ensures node { result.node ≡ (row_in u.now i).node }
+    ensures branch { result.branch ≡ (row_in u.now i).branch }
+    ensures rank { result.rank ≡ (row_in u.now i).rank }
 {
-    u[ROW_WIDE * i + 1]
-}
-
-pub fn row_rank(u: &[usize], i: usize) -> usize
-    requires { row_wide * i + row_wide ≤ length u.now }
-    ensures { result ≡ (row_in u.now i).rank }
-{
-    u[ROW_WIDE * i + 2]
+    let at = ROW_WIDE * i;
+    Row {
+        node: u[at],
+        branch: u[at + 1],
+        rank: u[at + 2],
+    }
 }
 
 // A row into place i.
-pub fn put_row(u: &mut [usize], i: usize, node: usize, branch: usize, rank: usize)
+pub fn put_row(u: &mut [usize], i: usize, row: Row)
     requires { row_wide * i + row_wide ≤ length u.old }
-    ensures { u.new ≡ stored u.old i (row node branch rank) }
+    ensures { u.new ≡ stored u.old i (as_row row) }
 {
     let j = ROW_WIDE * i;
-    u[j] = node;
-    u[j + 1] = branch;
-    u[j + 2] = rank;
+    u[j] = row.node;
+    u[j + 1] = row.branch;
+    u[j + 2] = row.rank;
 }
 
 // All numbers become zero.
 pub fn clear(u: &mut [usize])
     ensures { u.new ≡ filled (length u.old) [] }
 {
-    let mut i = 0;
-    while i < u.len() {
-        u[i] = 0;
-        i += 1;
-    }
+    u.fill(0);
 }
 
 // The first n places stay, and all numbers past them become zero.

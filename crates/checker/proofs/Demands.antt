@@ -11,7 +11,7 @@ use lib.ListN.{length}
 use lib.Dec.{eqb}
 use borrow.Author.Tests.{eq-eqb, ne_eqb, le-leb}
 use Rattle.bitml.specs.Lists.{sum}
-use Rattle.bitml.specs.Sheet.{Sheet, def_at}
+use Rattle.bitml.specs.Sheet.{Sheet}
 use Rattle.bitml.specs.Promises.{WellFormed}
 use Rattle.bitml.specs.Rows as rows
 use Rattle.bitml.specs.Rows.{Row, Accepted}

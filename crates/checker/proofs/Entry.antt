@@ -1,6 +1,6 @@
 -- What was read is what is judged. Assumes nothing.
 use mathlib.Core.Path.{◌≡◌, refl, sym, ap, ◌∙◌, subst}
-use Prim.Native.Nat.{ℕ, ◌-◌, ◌*◌, ◌≤◌, ◌<◌}
+use Prim.Native.Nat.{ℕ, ◌*◌, ◌≤◌, ◌<◌}
 use native.Mathlib.Omega.{arith}
 use mathlib.Core.Bool.{Bool, true, false, cond}
 use mathlib.Core.List.{List}
@@ -10,7 +10,6 @@ use borrow.Author.Tests.{eqb-true, eq-eqb, ne_eqb, le-leb, lt-leb}
 use mathlib.Core.Logic.{by_cases}
 use native.Mathlib.Decide.{dec_le}
 use Rattle.bitml.specs.Sheet.{Sheet}
-use Rattle.bitml.specs.Rows as bitml
 use Rattle.bitml.specs.Answers.{making_all, Answer, refused, printed, answer, places_of_one}
 use Rattle.tables.specs.Entries.{held, people, Spacious}
 use Rattle.tables.specs.SheetOf.{node_entry_at}
@@ -21,7 +20,7 @@ use Rattle.buffer.proofs.Buffer.{rows-length, filled-few}
 use Rattle.requests.specs.Rows.{RowFits, count_in}
 use Rattle.reading.specs.declared.Request.{Request}
 use Rattle.reading.specs.declared.Request.TheVariants as code
-use Rattle.reading.specs.Request.{LastPart, request, read_request, answered, make_all, check}
+use Rattle.reading.specs.Request.{LastPart, request, read_request, asked, make_all, check}
 use Rattle.promises.specs.Parts.{PartPromise}
 use Rattle.promises.specs.Texts.{PromisedWhole}
 use Rattle.promises.proofs.Whole.{promised_whole, whole_paid}
@@ -50,13 +49,13 @@ row_fits t u n i h f =
       rank_most = g.rank_most;
     }
 
-module _ (s t u : List ℕ) (x : Request) (read : answered x t u ≡ read_request s) where
+module _ (s t u : List ℕ) (x : Request) (read : asked x t u ≡ read_request s) where
   -- the request is that of the last part l
-  read_as_lem : (y : Request) (l : LastPart) → x ≡ y → answered y t u ≡ request (people t) (held t) l → read_request s ≡ request (people t) (held t) l
-  read_as_lem y l e q = sym (ap (λ z. answered z t u) (sym e) ∙ read) ∙ q
+  read_as_lem : (y : Request) (l : LastPart) → x ≡ y → asked y t u ≡ request (people t) (held t) l → read_request s ≡ request (people t) (held t) l
+  read_as_lem y l e q = sym (ap (λ z. asked z t u) (sym e) ∙ read) ∙ q
 
   -- so the table keeps the promises of a sheet, and l that of its word
-  pub ready_by : (y : Request) (l : LastPart) → x ≡ y → answered y t u ≡ request (people t) (held t) l → Spacious s t → Ready t × PartPromise s (people t) (held t) l
+  pub ready_by : (y : Request) (l : LastPart) → x ≡ y → asked y t u ≡ request (people t) (held t) l → Spacious s t → Ready t × PartPromise s (people t) (held t) l
   unfolding PromisedWhole
   ready_by y l e q room =
       let w = read_as_lem y l e q in
@@ -64,7 +63,7 @@ module _ (s t u : List ℕ) (x : Request) (read : answered x t u ≡ read_reques
       (record { long = omega (arith, room, whole_paid s (people t) (held t) l w); promises = k.0 }, k.1)
 
   pub ready-check : (p n : ℕ) → x ≡ code.Check p n → Spacious s t → numbers_of_one ≤ length u → Ready t × (p < people t) × RowsFit t u n
-  unfolding answered PartPromise
+  unfolding asked PartPromise
   ready-check p n e room wide =
       let k = ready_by (code.Check p n) (check p (rows_of n u)) e refl room in
       let l = rows-length n u in (
@@ -74,12 +73,12 @@ module _ (s t u : List ℕ) (x : Request) (read : answered x t u ≡ read_reques
       )
 
   pub ready-all : x ≡ code.MakeAll → Spacious s t → Ready t × ((rows n : ℕ) → Wide s rows n → places_of_all ≤ rows → numbers_of_all ≤ n)
-  unfolding answered Wide
+  unfolding asked Wide
   ready-all e room = ((ready_by code.MakeAll make_all e refl room).0, λ rows n w. w (people t) (held t) (read_as_lem code.MakeAll make_all e refl))
 
   -- the answer, by what was read
-  pub judged_by : (rows : ℕ) {n m : ℕ} {r : Reply} {v b : List ℕ} (y : Request) → x ≡ y → Gives (judged s rows (answered y t u)) n m r v b → Gives (judged s rows (read_request s)) n m r v b
-  judged_by rows {n} {m} {r} {v} {b} y e g = subst (λ w. Gives (judged s rows w) n m r v b) (ap (λ z. answered z t u) (sym e) ∙ read) g
+  pub judged_by : (rows : ℕ) {n m : ℕ} {r : Reply} {v b : List ℕ} (y : Request) → x ≡ y → Gives (judged s rows (asked y t u)) n m r v b → Gives (judged s rows (read_request s)) n m r v b
+  judged_by rows {n} {m} {r} {v} {b} y e g = subst (λ w. Gives (judged s rows w) n m r v b) (ap (λ z. asked z t u) (sym e) ∙ read) g
 
 -- ---- before reading
 

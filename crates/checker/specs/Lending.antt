@@ -2,8 +2,8 @@
 use Rattle.std.specs.Prelude.{◌≡◌, ℕ, ◌-◌, ◌≤◌, Bool, false, cond, List, length, eqb, ltb, leb}
 use Rattle.bitml.specs.Lists.{◌&◌}
 use Rattle.fields.specs.Field.{spelled, first_at}
-use Rattle.fields.specs.declared.Got.{Got}
-use Rattle.fields.specs.declared.Got.TheVariants.{Value, Bad}
+use Rattle.fields.specs.Field.{Got}
+use Rattle.fields.specs.Field.{Value, Bad}
 use Rattle.tables.specs.Entries.{Entries}
 use Rattle.buffer.specs.Buffer.{places_of_all, numbers_of_all}
 use Rattle.reading.specs.Request.{request, make_all, read_request}

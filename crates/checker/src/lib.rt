@@ -8,7 +8,6 @@ ghost use Rattle.reading.specs.Request.{read_request};
 ghost use Rattle.tables.specs.Entries.{Spacious};
 ghost use Rattle.tables.specs.SheetOf.{sheet_in};
 ghost use Rattle.buffer.specs.Buffer.{places_of_all, numbers_of_one, numbers_of_all, row_wide};
-ghost use Rattle.sheets.specs.Ready.{Ready};
 ghost use Rattle.texts.specs.Wrote.{Wrote};
 ghost use Rattle.replies.specs.Answer.{Gives, reply_of, numbers_of, bytes_of, least_text};
 ghost use Rattle.loading.specs.Loading.{loading, reply_to, cells_of};
@@ -18,16 +17,17 @@ ghost use Rattle.checker.specs.Entry.{answer_for_all, judged, answer_to, places_
 ghost use Rattle.checker.specs.Lending.{Wide, ends_in_all, wants_all};
 
 use buffer::{ALL_NUMBERS, ALL_PLACES, NUMBERS, ROW_WIDE};
-use fields::Got;
 use lent::{Row, emit_rows};
 use loading::read_sheet;
 use plays::play_for;
-use reader::first_from;
+use reader::Reader;
 use reading::{Request, read};
 use reasons::why_for;
-use replies::{Reply, TOO_SHORT, early, refuse};
+use refusals::Refusal;
+use replies::{Reply, early, refuse};
 use requests::MAKEALL;
 use saving::write_sheet;
+use sheets::Table;
 use tables::Sheet;
 use texts::put_refused;
 use verdicts::{check_for, make_all_for, make_for};
@@ -39,16 +39,15 @@ const ALL_LINE: usize = 8;
 const LINE: usize = 80;
 
 // `makeall` of a sheet that stands in the table, where the caller has places for so many rows.
-fn all_for(t: &[usize], room: usize, rows: &mut [usize], text: &mut [u8]) -> Reply
-    requires ready { Ready t.now }
+fn all_for(table: Table, room: usize, rows: &mut [usize], text: &mut [u8]) -> Reply
     requires numbers_of_all_in_bounds { places_of_all ≤ room → numbers_of_all ≤ length rows.old }
     requires least_text_in_bounds { least_text ≤ length text.old }
-    ensures { Gives (answer_for_all room (sheet_in t.now)) (length rows.old) (length text.old) result rows.new text.new }
+    ensures { Gives (answer_for_all room (sheet_in table.entry.cells.now)) (length rows.old) (length text.old) result rows.new text.new }
 {
     if room < ALL_PLACES {
-        return refuse(TOO_SHORT, 0, 0, rows, text);
+        return refuse(Refusal::OverLimit.number(), 0, 0, rows, text);
     }
-    make_all_for(t, rows, text)
+    make_all_for(table, rows, text)
 }
 
 // A request that is not too long, with buffers that are not too short, and a table that serves for it.
@@ -58,14 +57,17 @@ fn judged_in(s: &[u8], room: usize, t: &mut [usize], rows: &mut [usize], text: &
     requires spacious { Spacious s.now t.old }
     ensures { Gives (judged s.now room (read_request s.now)) (length rows.old) (length text.old) result rows.new text.new }
 {
-    let r = read(s, t, rows);
-    match r {
-        Request::Make(p) => make_for(t, p, rows, text),
-        Request::MakeAll => all_for(t, room, rows, text),
-        Request::Why(p) => why_for(t, p, rows, text),
-        Request::Check(p, n) => check_for(t, p, n, rows, text),
-        Request::Play(v, e) => play_for(s, v, e, t, rows, text),
-        Request::Refused(n, l, f) => refuse(n, l, f, rows, text),
+    let request = match read(s, t, rows) {
+        Ok(request) => request,
+        Err(d) => return refuse(d.refusal.number(), d.place.line, d.place.field, rows, text),
+    };
+    let table = Table { cells: t };
+    match request {
+        Request::Make(p) => make_for(table, p, rows, text),
+        Request::MakeAll => all_for(table, room, rows, text),
+        Request::Why(p) => why_for(table, p, rows, text),
+        Request::Check(p, n) => check_for(table, p, n, rows, text),
+        Request::Play(v, e) => play_for(s, v, e, table, rows, text),
     }
 }
 
@@ -95,9 +97,8 @@ fn judge_in(s: &[u8], room: usize, numbers: &mut [usize], text: &mut [u8]) -> Re
     ensures numbers_after { numbers.new ≡ numbers_of (length numbers.old) (answer_to s.now room (length text.old)) }
     ensures text_after { text.new ≡ bytes_of (length text.old) (answer_to s.now room (length text.old)) }
 {
-    let n = early(s.len(), room, text.len());
-    if n != 0 {
-        return refuse(n, 0, 0, numbers, text);
+    if let Some(refusal) = early(s.len(), room, text.len()) {
+        return refuse(refusal.number(), 0, 0, numbers, text);
     }
     judged(s, room, numbers, text)
 }
@@ -113,6 +114,7 @@ pub fn judge_numbers(s: &[u8], numbers: &mut [usize], text: &mut [u8]) -> Reply
 }
 
 // Whether the request's last line is `makeall`.
+#[tactic(auto, unfolding(crate::specs::Lending::ends_in_all, crate::specs::Lending::names_all))]
 fn ends_in_all(s: &[u8]) -> bool
     ensures { result ≡ ends_in_all s.now }
 {
@@ -120,10 +122,13 @@ fn ends_in_all(s: &[u8]) -> bool
     if n < ALL_LINE {
         return false;
     }
-    let g = first_from(s, n - ALL_LINE);
-    match g {
-        Got::Value(w, _) => w == MAKEALL,
-        Got::Bad(_, _) => false,
+    let last = Reader {
+        request: s,
+        at: n - ALL_LINE,
+    };
+    match last.first() {
+        Ok((w, _)) => w == MAKEALL,
+        Err(_) => false,
     }
 }
 
@@ -167,7 +172,8 @@ pub fn hurkoxel_judge(s: &[u8], rows: &mut [Row], text: &mut [u8]) -> Reply
     judge_rows(s, &mut numbers, rows, text)
 }
 
-// The line of a refused request, at the start of the buffer; a buffer under 80 bytes stays as it is. How many bytes were written comes back.
+// The line of a refused request, at the start of the buffer; a buffer under 80 bytes stays as it is. How many bytes were written comes back:
+// a number, as C takes it, and 0 for none.
 pub fn refused_line(number: usize, line: usize, field: usize, text: &mut [u8]) -> usize
     ensures { Wrote text.old 0 (refused_in (length text.old) number line field) text.new result }
 {
@@ -191,6 +197,7 @@ pub fn judge_text(s: &[u8], numbers: &mut [usize], text: &mut [u8]) -> usize
     refused_line(r.number, r.line, r.field, text)
 }
 
+// The same under the name that is exported.
 pub fn hurkoxel_refused_line(number: usize, line: usize, field: usize, text: &mut [u8]) -> usize
     ensures { Wrote text.old 0 (refused_in (length text.old) number line field) text.new result }
 {

@@ -1,23 +1,24 @@
 -- How the code's steps through a condition give what the definition says. Assumes nothing.
 use Prim.Native.Nat.{ℕ, zero, suc, ◌+◌, ◌*◌, ◌-◌, ◌≤◌, ◌<◌}
-use mathlib.Core.Path.{◌≡◌, sym, ◌∙◌, ap, subst}
+use mathlib.Core.Path.{◌≡◌, refl, sym, ◌∙◌, ap, subst}
 use mathlib.Core.List.{List}
-use mathlib.Core.Bool.{true, false}
+use mathlib.Core.Bool.{Bool, true, false, false≢true}
+use Rattle.std.specs.Prelude.{Some, None, cond, eqb}
 use native.Mathlib.Numerals.{sub-one}
 use native.Mathlib.Omega.{arith}
 use lib.ListN.{length}
 use lib.Dec.{leb}
-use borrow.Author.Tests.{le-leb, lt-leb, ne_eqb}
+use borrow.Author.Tests.{le-leb, lt-leb, eq-eqb, ne_eqb}
 use Rattle.fields.specs.Field.{word_at}
 use Rattle.tables.specs.declared.St.{St}
 use Rattle.tables.specs.State.{State, state_of, cells_of, more_cells}
 use Rattle.tables.proofs.Laws.{cells-length}
 use Rattle.tables.specs.Entries.{most_cells}
-use Rattle.steps.specs.declared.Read.{Read}
-use Rattle.steps.specs.declared.Read.TheVariants.{Value, Bad}
+use Rattle.steps.specs.Steps.{Read}
+use Rattle.steps.specs.Steps.{Value, Bad}
 use Rattle.steps.specs.Steps.{Outcome, next, bad, either, and_then, twice, moved, OnSt, Met}
-use Rattle.steps.proofs.Laws.{Took, Leads, passed, no', by, promised, called, call_refused}
-use Rattle.conditions.specs.Words.{no_word, pick, condition_cell, expression_cell}
+use Rattle.steps.proofs.Laws.{Took, Leads, took_word, passed, no', by, promised, called, call_refused}
+use Rattle.conditions.specs.Words.{no_word, cell_of, pick, condition_cell, expression_cell}
 use Rattle.conditions.specs.Condition.{store_at, constant_at, secret_at, operands_at, expression_with, expression_in, expression_at, clauses_at, condition_with, condition_in, condition_at, HasRoom, Kept, Leaves, Within}
 
 -- ---- counts
@@ -76,9 +77,9 @@ module _ {s : List ℕ} where
 
 -- ---- the fields that are left
 
-left_behind : {limit n : ℕ} {e : St} {r : Read} → Leaves limit r → r ≡ Value n e → e.cells + n ≡ limit
+left_behind : (limit n : ℕ) (e : St) → Leaves limit (Value n e) → e.cells + n ≡ limit
 unfolding Leaves
-left_behind {limit} h i = subst (Leaves limit) i h
+left_behind limit n e h = h
 
 pub leaves-refused : (limit : ℕ) {n p : ℕ} {r : Read} → r ≡ Bad n p → Leaves limit r
 unfolding Leaves
@@ -93,12 +94,19 @@ pub record Behind (s : List ℕ) (left : ℕ) (st : St) (n : ℕ) (e : St) : Typ
   pub total : e.cells + n ≡ st.cells + left
 
 module _ {s : List ℕ} {st e : St} {left n : ℕ} where
-  pub behind-word : {q : St} {w : Outcome} {r : Read} {t : List ℕ} → HasRoom s st → Took s 2 st e → Met (λ f. f ≡ more_cells e) w r t → Leaves (e.cells + left) r → r ≡ Value n q
+  behind-word : {q : St} {w : Outcome} {t : List ℕ} → HasRoom s st → Took s 2 st e → Met (λ f. f ≡ more_cells e) w (Value n q) t → Leaves (e.cells + left) (Value n q)
       → Behind s left st n q
-  behind-word h k m l i = record { kept = kept_stored h k (promised m i); total = omega (arith, left_behind l i, k.cells) }
+  behind-word h k m l = record { kept = kept_stored h k (promised m); total = omega (arith, left_behind _ _ _ l, k.cells) }
 
-  pub behind_part : {want : ℕ → ℕ → Outcome} {r : Read} {t : List ℕ} → Within s left st want r t → r ≡ Value n e → Behind s left st n e
-  behind_part w i = record { kept = promised (w.met left (omega arith)) i; total = left_behind w.leaves i }
+  pub behind_part : {want : ℕ → ℕ → Outcome} {t : List ℕ} → Within s left st want (Value n e) t → Behind s left st n e
+  behind_part w = record { kept = promised (w.met left (omega arith)); total = left_behind _ _ _ w.leaves }
+
+  -- a part of it is read to a depth that is one less
+  pub fewer : {d : ℕ} → Behind s left st n e → left ≤ d → n ≤ d - 1
+  fewer b h = omega (arith, b.total, b.kept.more-cells)
+
+  some_depth : {d : ℕ} → Behind s left st n e → left ≤ d → 0 < d
+  some_depth b h = omega (arith, b.total, b.kept.more-cells)
 
 -- no field is left, as the code tests it
 pub none_left : (left n : ℕ) (t : List ℕ) → left ≡ 0 → leb (n + left) (length (cells_of n t)) ≡ true
@@ -109,6 +117,21 @@ some_left left n t h = rw cells-length (lt-leb (n + left) n (omega (arith, h)))
 
 -- ---- words
 
+cell_when : (b : Bool) (n c : ℕ) → Some c ≡ cond b None (Some n) → (c ≡ n) × (b ≡ false)
+cell_when true n c h = let z : ◌≡◌ {A = ℕ} 0 1 = cc in absurd (omega arith)
+cell_when false n c h = (cc, refl)
+
+-- a cell that the code has is that of the word, which is one
+pub cell_is : (n : ℕ) {c : ℕ} → Some c ≡ cell_of n → (c ≡ n) × (eqb n no_word ≡ false)
+cell_is n {c} h = cell_when (eqb n no_word) n c h
+
+no-cell : (b : Bool) (n : ℕ) → None ≡ cond b None (Some n) → b ≡ true
+no-cell true n h = refl
+no-cell false n h = let z : ◌≡◌ {A = ℕ} 0 1 = cc in absurd (omega arith)
+
+pub no_cell : (n : ℕ) → None ≡ cell_of n → eqb n no_word ≡ true
+no_cell n h = no-cell (eqb n no_word) n h
+
 -- the empty word is none
 pub expression_bytes : (w : ℕ) → (expression_cell w ≡ no_word → ⊥) → w ≡ 0 → ⊥
 unfolding expression_cell pick
@@ -118,22 +141,38 @@ pub condition-bytes : (w : ℕ) → (condition_cell w ≡ no_word → ⊥) → w
 unfolding condition_cell pick
 condition-bytes w h z = h (rw z)
 
+module _ {s : List ℕ} {st e : St} {w b : ℕ} where
+  pub took_expression : Value w e ≡ moved st (word_at s st.at) → Some b ≡ cell_of (expression_cell w) → Took s 2 st e
+  took_expression h c = took_word h (expression_bytes w λ i. false≢true (sym (cell_is _ c).1 ∙ eq-eqb _ _ i))
+
+  pub took_condition : Value w e ≡ moved st (word_at s st.at) → Some b ≡ cell_of (condition_cell w) → Took s 2 st e
+  took_condition h c = took_word h (condition-bytes w λ i. false≢true (sym (cell_is _ c).1 ∙ eq-eqb _ _ i))
+
+module _ {s : List ℕ} {st e q : St} {w b left n : ℕ} {x : Outcome} {t : List ℕ} where
+  pub behind_expression : HasRoom s st → Value w e ≡ moved st (word_at s st.at) → Some b ≡ cell_of (expression_cell w)
+      → Met (λ f. f ≡ more_cells e) x (Value n q) t → Leaves (e.cells + left) (Value n q) → Behind s left st n q
+  behind_expression r h c m l = behind-word r (took_expression h c) m l
+
+  pub behind_condition : HasRoom s st → Value w e ≡ moved st (word_at s st.at) → Some b ≡ cell_of (condition_cell w)
+      → Met (λ f. f ≡ more_cells e) x (Value n q) t → Leaves (e.cells + left) (Value n q) → Behind s left st n q
+  behind_condition r h c m l = behind-word r (took_condition h c) m l
+
 -- ---- what follows a word, by the depth d and by its cell, b in the code; m is the limit as the code has it
 
 module _ {P Q : St → Type 0} {m n q j : ℕ} {r : Read} {t : List ℕ} where
   -- no field is left for it: the limit says what depth 0 says
-  no_depth : (p b : ℕ) (a : State) → length a.cells ≡ j → m ≤ j → Met Q (store_at m p b a) r t → r ≡ Bad n q → Met P (bad 7 p) r t
+  no_depth : (p b : ℕ) (a : State) → length a.cells ≡ j → m ≤ j → Met Q (store_at m p b a) (Bad n q) t → r ≡ Bad n q → Met P (bad 7 p) r t
   unfolding store_at either OnSt
-  no_depth p b a g h i k = record { same = i.same ∙ rw (g, le-leb m j h); holds = subst (OnSt P) (sym k) tt }
+  no_depth p b a g h i k = record { same = rw k (i.same ∙ rw (g, le-leb m j h)); holds = subst (OnSt P) (sym k) tt }
 
   module _ (s : List ℕ) {limit : ℕ} (from : ℕ) where
-    pub expression_none : (d p c b : ℕ) (a : State) → m ≡ limit → b ≡ c → length a.cells ≡ j → limit ≤ j + d → Met Q (store_at m p b a) r t → r ≡ Bad n q
+    pub expression_none : (d p c b : ℕ) (a : State) → m ≡ limit → b ≡ c → length a.cells ≡ j → limit ≤ j + d → Met Q (store_at m p b a) (Bad n q) t → r ≡ Bad n q
         → Met P (expression_in s limit from d p c a) r t
     unfolding expression_in
     expression_none zero p c b a e f g h i k = no_depth p b a g (omega arith) i k
     expression_none (suc d) p c b a e f g h i k = rw (← e, ← f) (call_refused _ i k)
 
-    pub condition-none : (d p c b : ℕ) (a : State) → m ≡ limit → b ≡ c → length a.cells ≡ j → limit ≤ j + d → Met Q (store_at m p b a) r t → r ≡ Bad n q
+    pub condition-none : (d p c b : ℕ) (a : State) → m ≡ limit → b ≡ c → length a.cells ≡ j → limit ≤ j + d → Met Q (store_at m p b a) (Bad n q) t → r ≡ Bad n q
         → Met P (condition_in s limit from d p c a) r t
     unfolding condition_in
     condition-none zero p c b a e f g h i k = no_depth p b a g (omega arith) i k
@@ -199,19 +238,19 @@ module _ {P : St → Type 0} (C E : State → Outcome) (c : ℕ) (a : State) whe
   clauses_two h i j r t m = rw (ne_eqb c 0 h, ne_eqb c 1 i, ne_eqb c 2 j) m
 
 -- a word is read and its cell stored, and its parts follow
-module _ {P Q : St → Type 0} {s : List ℕ} {st e f : St} {w b n : ℕ} {r₀ r₁ r : Read} {t' u : List ℕ} (left from d : ℕ) (t : List ℕ) where
-  pub expression_word_lem : Took s 2 st e → r₀ ≡ moved st (word_at s st.at) → r₀ ≡ Value w e → b ≡ expression_cell w → (b ≡ no_word → ⊥)
-      → Met Q (store_at (e.cells + left) st.at b (state_of e t)) r₁ t' → r₁ ≡ Value n f → 0 < d
+module _ {P Q : St → Type 0} {s : List ℕ} {st e f : St} {w b n : ℕ} {r : Read} {t' u : List ℕ} (left from d : ℕ) (t : List ℕ) where
+  pub expression_word_lem : Value w e ≡ moved st (word_at s st.at) → Some b ≡ cell_of (expression_cell w)
+      → Met Q (store_at (e.cells + left) st.at b (state_of e t)) (Value n f) t' → Behind s left st n f → left ≤ d
       → Met P (operands_at s (st.cells + left) from (expression_at s (st.cells + left) from (d - 1)) b (state_of f t')) r u
       → Met P (expression_at s (st.cells + left) from d (state_of st t)) r u
   unfolding expression_at expression_with
-  expression_word_lem k h i c o m j g x =
-      passed _ _ _ _ h i (no' _ (ne_eqb _ _ (λ z. o (c ∙ z))) (expression_more _ _ d _ _ _ _ (ap (λ n. n + left) k.cells) c g _ _ (called _ m j x)))
+  expression_word_lem h c m b g x =
+      passed _ _ _ _ h (no' _ (cell_is _ c).1 (expression_more _ _ d _ _ _ _ (ap (λ n. n + left) (took_expression h c).cells) (cell_is _ c).0 (some_depth b g) _ _ (called _ m x)))
 
-  pub condition-word : Took s 2 st e → r₀ ≡ moved st (word_at s st.at) → r₀ ≡ Value w e → b ≡ condition_cell w → (b ≡ no_word → ⊥)
-      → Met Q (store_at (e.cells + left) st.at b (state_of e t)) r₁ t' → r₁ ≡ Value n f → 0 < d
+  pub condition-word : Value w e ≡ moved st (word_at s st.at) → Some b ≡ cell_of (condition_cell w)
+      → Met Q (store_at (e.cells + left) st.at b (state_of e t)) (Value n f) t' → Behind s left st n f → left ≤ d
       → Met P (clauses_at (condition_at s (st.cells + left) from (d - 1)) (expression_at s (st.cells + left) from (d - 1)) b (state_of f t')) r u
       → Met P (condition_at s (st.cells + left) from d (state_of st t)) r u
   unfolding condition_at condition_with
-  condition-word k h i c o m j g x =
-      passed _ _ _ _ h i (no' _ (ne_eqb _ _ (λ z. o (c ∙ z))) (condition-more _ _ d _ _ _ _ (ap (λ n. n + left) k.cells) c g _ _ (called _ m j x)))
+  condition-word h c m b g x =
+      passed _ _ _ _ h (no' _ (cell_is _ c).1 (condition-more _ _ d _ _ _ _ (ap (λ n. n + left) (took_condition h c).cells) (cell_is _ c).0 (some_depth b g) _ _ (called _ m x)))

@@ -3,8 +3,8 @@ use Rattle.std.specs.Prelude.{ℕ, zero, suc, ◌+◌, ◌*◌, ◌≤◌, ◌<�
 use Rattle.fields.specs.Field.{any_number, number_at, word_at}
 use Rattle.tables.specs.declared.St.{St}
 use Rattle.tables.specs.State.{State, Fits, with_cell, among, since}
-use Rattle.steps.specs.declared.Read.{Read}
-use Rattle.steps.specs.declared.Read.TheVariants.{Value, Bad}
+use Rattle.steps.specs.Steps.{Read}
+use Rattle.steps.specs.Steps.{Value, Bad}
 use Rattle.steps.specs.Steps.{Outcome, next, bad, go_on, either, and_then, twice, Met}
 use Rattle.conditions.specs.Words.{no_word, condition_cell, expression_cell}
 

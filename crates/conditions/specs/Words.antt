@@ -1,5 +1,5 @@
 -- The words of conditions and expressions, and the cells that hold them. Assumes nothing.
-use Rattle.std.specs.Prelude.{ℕ, Bool, true, false, eqb}
+use Rattle.std.specs.Prelude.{ℕ, Bool, true, false, eqb, cond, Option, Some, None}
 use Rattle.fields.specs.Field.{spelled}
 
 abbrev pub t_word : ℕ
@@ -36,6 +36,10 @@ pick false a b = b
 -- the cell of no word
 abbrev pub no_word : ℕ
 no_word = 5
+
+-- what the code answers: nothing for that cell
+abbrev pub cell_of : ℕ → Option ℕ
+cell_of c = cond (eqb c no_word) None (Some c)
 
 -- "condition: `t`, or `and`,p,p, `not`,p, `eq`,e,e, `lt`,e,e"
 unfoldable pub condition_cell : ℕ → ℕ

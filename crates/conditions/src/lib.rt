@@ -5,12 +5,15 @@
 
 ghost use Rattle.std.specs.Prelude.{◌≡◌, ◌+◌, ◌<◌, length};
 ghost use Rattle.tables.specs.State.{state_of, more_cells, Fits};
-ghost use Rattle.tables.specs.Entries.{cells_from, Spacious, most_cells};
-ghost use Rattle.steps.specs.Steps.{Met, twice};
-ghost use Rattle.conditions.specs.Words.{condition_cell, expression_cell};
+ghost use Rattle.tables.specs.Entries.{cells_from, most_cells};
+ghost use Rattle.steps.specs.Filling.{Same};
+ghost use Rattle.steps.specs.Steps.{Met, told, twice};
+ghost use Rattle.conditions.specs.Words.{cell_of, condition_cell, expression_cell};
 ghost use Rattle.conditions.specs.Condition.{store_at, constant_at, secret_at, expression_at, condition_at, HasRoom, Kept, Leaves, Within};
 
-use steps::{Read, letters, num};
+use fields::Refused;
+use refusals::Refusal;
+use steps::{Filling, letters, num, refused};
 use tables::{Sheet, St, is_listed, put_cell};
 
 // The words, as numbers in base 256.
@@ -32,154 +35,142 @@ const ADD: usize = (b'a' as usize * 256 + b'd' as usize) * 256 + b'd' as usize;
 
 const SUB: usize = (b's' as usize * 256 + b'u' as usize) * 256 + b'b' as usize;
 
-// The cell of no word.
-const NONE: usize = 5;
-
-fn condition_cell(w: usize) -> usize
-    ensures { result ≡ condition_cell w }
+#[tactic(auto, unfolding(crate::specs::Words::condition_cell, crate::specs::Words::pick))]
+fn condition_cell(w: usize) -> Option<usize>
+    ensures { result ≡ cell_of (condition_cell w) }
 {
     match w {
-        T => Sheet::T,
-        AND => Sheet::AND,
-        NOT => Sheet::NOT,
-        EQ => Sheet::EQ,
-        LT => Sheet::LT,
-        _ => NONE,
+        T => Some(Sheet::T),
+        AND => Some(Sheet::AND),
+        NOT => Some(Sheet::NOT),
+        EQ => Some(Sheet::EQ),
+        LT => Some(Sheet::LT),
+        _ => None,
     }
 }
 
-fn expression_cell(w: usize) -> usize
-    ensures { result ≡ expression_cell w }
+#[tactic(auto, unfolding(crate::specs::Words::expression_cell, crate::specs::Words::pick))]
+fn expression_cell(w: usize) -> Option<usize>
+    ensures { result ≡ cell_of (expression_cell w) }
 {
     match w {
-        K => Sheet::K,
-        V => Sheet::V,
-        ADD => Sheet::ADD,
-        SUB => Sheet::SUB,
-        _ => NONE,
+        K => Some(Sheet::K),
+        V => Some(Sheet::V),
+        ADD => Some(Sheet::ADD),
+        SUB => Some(Sheet::SUB),
+        _ => None,
     }
 }
 
 // A cell more for the field at p, unless no field may come any more.
-fn store(st: St, p: usize, left: usize, v: usize, t: &mut [usize]) -> Read
+fn store(st: St, p: usize, left: usize, v: usize, t: &mut [usize]) -> Result<(usize, St), Refused>
     requires cells_in_bounds { cells_from + st.cells < length t.old }
     requires fits { Fits st }
     requires cells_lt_most_cells { st.cells < most_cells }
-    ensures met { Met (λ e. e ≡ more_cells st) (store_at (st.cells + left) p v (state_of st t.old)) result t.new }
-    ensures leaves { Leaves (st.cells + left) result }
+    ensures met { Met (λ e. e ≡ more_cells st) (store_at (st.cells + left) p v (state_of st t.old)) (told result) t.new }
+    ensures leaves { Leaves (st.cells + left) (told result) }
 {
     if left == 0 {
-        return Read::Bad(7, p);
+        return Err(Refused {
+            refusal: Refusal::OverLimit,
+            at: p,
+        });
     }
     let next = put_cell(t, st, v);
-    Read::Value(left - 1, next)
+    Ok((left - 1, next))
 }
 
 // The number of a `k`.
-fn constant(s: &[u8], st: St, left: usize, t: &mut [usize]) -> Read
-    requires spacious { Spacious s.now t.old }
-    requires has_room { HasRoom s.now st }
-    ensures met { Met (Kept s.now st) (constant_at s.now (st.cells + left) (state_of st t.old)) result t.new }
-    ensures leaves { Leaves (st.cells + left) result }
+fn constant(filling: &mut Filling, st: St, left: usize) -> Result<(usize, St), Refused>
+    requires has_room { HasRoom filling.old.request.now st }
+    ensures same { Same filling.old filling.new }
+    ensures met { Met (Kept filling.old.request.now st) (constant_at filling.old.request.now (st.cells + left) (state_of st filling.old.table.now)) (told result) filling.new.table.now }
+    ensures leaves { Leaves (st.cells + left) (told result) }
 {
-    let g = num(s, st, Sheet::CONSTANT);
-    let Read::Value(v, e) = g else {
-        return g;
-    };
-    store(e, st.at, left, v, t)
+    let (v, e) = num(filling.request, st, Sheet::CONSTANT)?;
+    store(e, st.at, left, v, filling.table)
 }
 
 // The secret of a `v`, one of those listed from `from` on.
-fn secret(s: &[u8], st: St, left: usize, from: usize, t: &mut [usize]) -> Read
-    requires spacious { Spacious s.now t.old }
-    requires has_room { HasRoom s.now st }
-    ensures met { Met (Kept s.now st) (secret_at s.now (st.cells + left) from (state_of st t.old)) result t.new }
-    ensures leaves { Leaves (st.cells + left) result }
+fn secret(filling: &mut Filling, st: St, left: usize, from: usize) -> Result<(usize, St), Refused>
+    requires has_room { HasRoom filling.old.request.now st }
+    ensures same { Same filling.old filling.new }
+    ensures met { Met (Kept filling.old.request.now st) (secret_at filling.old.request.now (st.cells + left) from (state_of st filling.old.table.now)) (told result) filling.new.table.now }
+    ensures leaves { Leaves (st.cells + left) (told result) }
 {
-    let g = num(s, st, Sheet::NUMBER);
-    let Read::Value(v, e) = g else {
-        return g;
-    };
-    let to = e.listed;
-    let there = is_listed(t, from, to, v);
-    if there {
-        return store(e, st.at, left, v, t);
+    let (v, e) = num(filling.request, st, Sheet::NUMBER)?;
+    // One reference for both calls: of a table that the field itself lends to be read, no cell is known afterwards.
+    let t = &mut *filling.table;
+    if !is_listed(t, from, e.listed, v) {
+        return Err(refused(st, Refusal::Unknown));
     }
-    Read::Bad(6, st.at)
+    store(e, st.at, left, v, t)
 }
 
 // An expression: of two, the first, and then the second over the fields that the first left.
-fn expression(s: &[u8], st: St, left: usize, from: usize, t: &mut [usize]) -> Read
-    requires spacious { Spacious s.now t.old }
-    requires has_room { HasRoom s.now st }
-    ensures { Within s.now left st (λ limit d. expression_at s.now limit from d (state_of st t.old)) result t.new }
+fn expression(
+    filling: &mut Filling,
+    st: St,
+    left: usize,
+    from: usize,
+) -> Result<(usize, St), Refused>
+    requires has_room { HasRoom filling.old.request.now st }
+    ensures same { Same filling.old filling.new }
+    ensures within { Within filling.old.request.now left st (λ limit d. expression_at filling.old.request.now limit from d (state_of st filling.old.table.now)) (told result) filling.new.table.now }
 {
-    let g = letters(s, st);
-    let Read::Value(w, e) = g else {
-        return g;
+    let (w, e) = letters(filling.request, st)?;
+    let Some(c) = expression_cell(w) else {
+        return Err(refused(st, Refusal::NotDue));
     };
-    let c = expression_cell(w);
-    if c == NONE {
-        return Read::Bad(3, st.at);
-    }
-    let h = store(e, st.at, left, c, t);
-    let Read::Value(on, f) = h else {
-        return h;
-    };
+    let (on, f) = store(e, st.at, left, c, filling.table)?;
     match c {
-        Sheet::K => return constant(s, f, on, t),
-        Sheet::V => return secret(s, f, on, from, t),
+        Sheet::K => constant(filling, f, on),
+        Sheet::V => secret(filling, f, on, from),
         _ => {
-            let i = expression(s, f, on, from, t);
-            let Read::Value(next, q) = i else {
-                return i;
-            };
-            return expression(s, q, next, from, t);
+            let (next, q) = expression(filling, f, on, from)?;
+            expression(filling, q, next, from)
         }
     }
 }
 
 // The two sides of an `eq` or an `lt`.
-fn both_expressions(s: &[u8], st: St, left: usize, from: usize, t: &mut [usize]) -> Read
-    requires spacious { Spacious s.now t.old }
-    requires has_room { HasRoom s.now st }
-    ensures { Within s.now left st (λ limit d. twice (expression_at s.now limit from d) (state_of st t.old)) result t.new }
+fn both_expressions(
+    filling: &mut Filling,
+    st: St,
+    left: usize,
+    from: usize,
+) -> Result<(usize, St), Refused>
+    requires has_room { HasRoom filling.old.request.now st }
+    ensures same { Same filling.old filling.new }
+    ensures within { Within filling.old.request.now left st (λ limit d. twice (expression_at filling.old.request.now limit from d) (state_of st filling.old.table.now)) (told result) filling.new.table.now }
 {
-    let g = expression(s, st, left, from, t);
-    let Read::Value(next, e) = g else {
-        return g;
-    };
-    expression(s, e, next, from, t)
+    let (next, e) = expression(filling, st, left, from)?;
+    expression(filling, e, next, from)
 }
 
 // A condition: of the two of an `and`, the first, and then the second over the fields that the first left.
-pub fn condition(s: &[u8], st: St, left: usize, from: usize, t: &mut [usize]) -> Read
-    requires spacious { Spacious s.now t.old }
-    requires has_room { HasRoom s.now st }
-    ensures { Within s.now left st (λ limit d. condition_at s.now limit from d (state_of st t.old)) result t.new }
+pub fn condition(
+    filling: &mut Filling,
+    st: St,
+    left: usize,
+    from: usize,
+) -> Result<(usize, St), Refused>
+    requires has_room { HasRoom filling.old.request.now st }
+    ensures same { Same filling.old filling.new }
+    ensures within { Within filling.old.request.now left st (λ limit d. condition_at filling.old.request.now limit from d (state_of st filling.old.table.now)) (told result) filling.new.table.now }
 {
-    let g = letters(s, st);
-    let Read::Value(w, e) = g else {
-        return g;
+    let (w, e) = letters(filling.request, st)?;
+    let Some(c) = condition_cell(w) else {
+        return Err(refused(st, Refusal::NotDue));
     };
-    let c = condition_cell(w);
-    if c == NONE {
-        return Read::Bad(3, st.at);
-    }
-    let h = store(e, st.at, left, c, t);
-    let Read::Value(on, f) = h else {
-        return h;
-    };
+    let (on, f) = store(e, st.at, left, c, filling.table)?;
     match c {
-        Sheet::T => return Read::Value(on, f),
-        Sheet::NOT => return condition(s, f, on, from, t),
+        Sheet::T => Ok((on, f)),
+        Sheet::NOT => condition(filling, f, on, from),
         Sheet::AND => {
-            let i = condition(s, f, on, from, t);
-            let Read::Value(next, q) = i else {
-                return i;
-            };
-            return condition(s, q, next, from, t);
+            let (next, q) = condition(filling, f, on, from)?;
+            condition(filling, q, next, from)
         }
-        _ => return both_expressions(s, f, on, from, t),
+        _ => both_expressions(filling, f, on, from),
     }
 }

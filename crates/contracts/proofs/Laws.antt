@@ -7,18 +7,18 @@ use native.Mathlib.Numerals.{sub-one}
 use native.Mathlib.Omega.{arith}
 use lib.ListN.{length}
 use lib.Dec.{leb, eqb}
-use borrow.Author.Tests.{le-leb, lt-leb, ne_eqb}
-use Rattle.fields.specs.Field.{number_at}
+use borrow.Author.Tests.{le-leb, lt-leb, eq-eqb, ne_eqb}
+use Rattle.fields.specs.Field.{any_number, number_at, word_at}
 use Rattle.tables.specs.declared.St.{St}
 use Rattle.tables.specs.declared.Head.{Head}
-use Rattle.tables.specs.State.{State, nodes_of, branches_of, listed_of, more_nodes, more_branches, more_listed, with_node, with_branch, node_entry, branch_entry}
+use Rattle.tables.specs.State.{State, state_of, nodes_of, branches_of, listed_of, more_nodes, more_branches, more_listed, with_node, with_branch, node_entry, branch_entry}
 use Rattle.tables.proofs.Laws.{nodes-length, branches-length, listed-length}
 use Rattle.tables.specs.Entries.{most_nodes, most_branches, most_listed}
-use Rattle.steps.specs.Steps.{next, bad, go_on, either, and_then, times}
-use Rattle.steps.proofs.Laws.{Took, Leads}
+use Rattle.steps.specs.Steps.{Read, Value, next, bad, moved, go_on, either, and_then, times, Met}
+use Rattle.steps.proofs.Laws.{Took, Leads, took_number, took_letters, passed, yes', no', by}
 use Rattle.conditions.specs.Condition.{condition_at, HasRoom, Kept}
 use Rattle.contracts.specs.declared.Limits.{Limits}
-use Rattle.contracts.specs.Contract.{w_word, s_word, r_word, g_word, ContractReader, action, leaf_at, weighed_at, split_at, list_at, hold_at, open_at, reveal_at, action_at, read_branch, inside_at, read_contract}
+use Rattle.contracts.specs.Contract.{c_word, w_word, s_word, r_word, g_word, ContractReader, action, leaf_at, weighed_at, split_at, list_at, hold_at, open_at, reveal_at, action_at, read_branch, contract_with, inside_at, read_contract}
 use Rattle.contracts.specs.Counts.{Few, Added}
 
 -- ---- counts
@@ -35,17 +35,13 @@ module _ {s : List ℕ} where
       (record { nodes = k.nodes; branches = omega arith; defs = k.defs; listed = omega arith; cells = k.cells; further = omega arith; inside = k.inside })
 
   -- the numbers of a list, one by one
-  pub added_none : (n : ℕ) (st : St) → HasRoom s st → Added s 0 (n - n) st st
-  added_none n st r =
+  pub added_none : (st : St) → HasRoom s st → Added s 0 0 st st
+  added_none st r =
       record { nodes = refl; branches = omega arith; defs = refl; listed = omega arith; cells = refl; further = omega arith; inside = r.inside }
 
-  pub added_more : (n left : ℕ) {st e q : St} → Added s 0 (n - left) st e → Added s 0 1 e q → 0 < left → left ≤ n → Added s 0 (n - (left - 1)) st q
-  added_more n left a b h i =
+  pub added_more : {l : ℕ} {st e q : St} → Added s 0 l st e → Added s 0 1 e q → Added s 0 (l + 1) st q
+  added_more a b =
       record { nodes = omega arith; branches = omega arith; defs = omega arith; listed = omega arith; cells = omega arith; further = omega arith; inside = b.inside }
-
-  pub added_all : {n : ℕ} (left : ℕ) {st e : St} → Added s 0 (n - left) st e → left ≤ 0 → Added s 0 n st e
-  added_all left a h =
-      record { nodes = a.nodes; branches = a.branches; defs = a.defs; listed = omega arith; cells = a.cells; further = a.further; inside = a.inside }
 
   pub ready_added : {b l : ℕ} {st e : St} → HasRoom s st → Added s b l st e → st.branches + b ≤ most_branches → st.listed + l ≤ most_listed → HasRoom s e
   ready_added r k h i =
@@ -167,6 +163,38 @@ module _ {P : St → Type 0} (s : List ℕ) where
 pub begin : (s : List ℕ) (lim : Limits) (k : ContractReader) (n m i : ℕ) (t : List ℕ) (x a : State) → i ≡ m → x ≡ a
     → times n (read_branch s lim k i) x ≡ times n (read_branch s lim k (length (nodes_of m t))) a
 begin s lim k n m i t x a h e = rw (nodes-length m t, h, e)
+
+-- a branch is read as far as the word of its action
+module _ {P : St → Type 0} {e f g : St} {signers opens w : ℕ} (s : List ℕ) (lim : Limits) (st : St) (k : ContractReader) (node : ℕ) (t : List ℕ) where
+  pub branch_word : {r : Read} {u : List ℕ} → Value signers e ≡ moved st (number_at s st.at any_number) → signers < lim.all → st.branches < most_branches
+      → Value opens f ≡ moved e (number_at s e.at 4294967295) → Value w g ≡ moved f (word_at s f.at)
+      → Met P (action_at s lim k (record { node = node; signers = signers; opens = opens }) f.at (state_of g t) w) r u
+      → Met P (read_branch s lim k node (state_of st t)) r u
+  unfolding read_branch
+  branch_word h i j l x m =
+      passed _ _ _ _ h (no' _ (lt-leb _ _ i) (no' _ (branches-free _ _ _ j) (passed _ _ _ _ l (passed _ _ _ _ x m))))
+
+module _ {s : List ℕ} {lim : Limits} {st e f g : St} {signers opens w : ℕ} where
+  pub few_word : Few s lim st → st.branches < most_branches → Value signers e ≡ moved st (number_at s st.at any_number)
+      → Value opens f ≡ moved e (number_at s e.at 4294967295) → Value w g ≡ moved f (word_at s f.at) → Few s lim g × (g.branches < most_branches)
+  few_word r h i j k =
+      let x = took_number _ i in
+      let y = took_number _ j in
+      let z = took_letters k in
+      (few_took (few_took (few_took r x) y) z, omega (arith, h, x.branches, y.branches, z.branches))
+
+-- a contract is read as far as its branches
+module _ {P : St → Type 0} {e : St} {w : ℕ} (s : List ℕ) (lim : Limits) (st : St) (d parent weight : ℕ) (t : List ℕ) where
+  pub contract_word : {r : Read} {u : List ℕ} → Value w e ≡ moved st (word_at s st.at) → w ≡ c_word
+      → Met P (inside_at s lim d st.at parent weight (state_of e t)) r u → Met P (read_contract s lim d parent weight (state_of st t)) r u
+  unfolding read_contract contract_with
+  contract_word h i m = passed _ _ _ _ h (yes' _ (eq-eqb _ _ i) m)
+
+  pub contract_begun : {f : St} {n : ℕ} (q : St) (v : List ℕ) {r : Read} {u : List ℕ} → Value w e ≡ moved st (word_at s st.at) → w ≡ c_word → (d ≡ 0 → ⊥)
+      → e.nodes < most_nodes → Value n f ≡ moved e (number_at s e.at 16) → state_of q v ≡ with_node (node_entry lim.def parent weight n) (state_of f t)
+      → Met P (times n (read_branch s lim (read_contract s lim (d - 1)) f.nodes) (state_of q v)) r u → Met P (read_contract s lim d parent weight (state_of st t)) r u
+  contract_begun q v h i j k l x m =
+      contract_word h i (inside-more _ _ _ _ _ _ _ j _ _ (no' _ (nodes-free _ _ _ k) (passed _ _ _ _ l (by (begin _ _ _ _ _ _ _ _ _ (took_number _ l).nodes x) m))))
 
 -- the parts begin, with the branch stored
 pub begin_parts : (s : List ℕ) (k : ContractReader) (n m i : ℕ) (t : List ℕ) (x a : State) → i ≡ m → x ≡ a

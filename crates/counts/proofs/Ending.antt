@@ -1,7 +1,7 @@
 -- The line that ends a play, by the ledger's fields. Assumes nothing.
-use Prim.Native.Nat.{ℕ, ◌-◌, ◌<◌}
-use mathlib.Core.Bool.{true, false, cond}
-use mathlib.Core.Path.{◌≡◌, sym, ap, ◌∙◌, subst}
+use Prim.Native.Nat.{ℕ, ◌<◌}
+use mathlib.Core.Bool.{cond}
+use mathlib.Core.Path.{◌≡◌, refl, sym, ap, ◌∙◌, subst}
 use mathlib.Core.List.{List, map}
 use native.Mathlib.Omega.{arith}
 use lib.ListN.{get_or, length, length-map}
@@ -13,25 +13,20 @@ use Rattle.bitml.proofs.Lists.{get_d_up, length_up}
 use Rattle.tables.specs.Entries.{first_of}
 use Rattle.tables.proofs.SheetOf.{map-map}
 use Rattle.tables.proofs.Runs.{first_of-length, first_of_get_d}
-use Rattle.duties.proofs.Sums.{sum_from}
+use Rattle.std.proofs.lemmas.List.Recursion.{is_sum_by}
+use Rattle.std.specs.List.{filter, count_by, range_with_len}
+use Rattle.std.proofs.lemmas.List.Sums.{length-filter}
+use Rattle.sheets.proofs.Chains.{range-up}
 use Rattle.counts.specs.Book.{Book}
 use Rattle.counts.specs.View.{alive_at, view, contract_of, live_of}
 
 -- ---- counting
 
--- 1 for a live contract
-abbrev pub lives : List ℕ → ℕ → ℕ
-lives alive c = cond (alive_at alive c) 1 0
-
-pub lives_all : (alive : List ℕ) (n : ℕ) → sum_from (lives alive) 0 n ≡ live_of alive n
-unfolding sum_from live_of
-lives_all alive n = ap (λ k. sum (map (lives alive) (up_from 0 k))) (let z : n - 0 ≡ n = omega arith in z)
-
-pub lives_yes : (alive : List ℕ) (c : ℕ) → alive_at alive c ≡ true → lives alive c ≡ 1
-lives_yes alive c e = ap (λ b. cond b 1 0) e
-
-pub lives_no : (alive : List ℕ) (c : ℕ) → alive_at alive c ≡ false → lives alive c ≡ 0
-lives_no alive c e = ap (λ b. cond b 1 0) e
+pub counted : (alive : List ℕ) (n : ℕ) → length (filter (alive_at alive) (range_with_len 0 n)) ≡ live_of alive n
+unfolding live_of
+counted alive n =
+    length-filter (alive_at alive) (range_with_len 0 n) ∙ ap (count_by (alive_at alive)) (range-up 0 n)
+    ∙ sym (is_sum_by (λ cs. sum (map (λ c. cond (alive_at alive c) 1 0) cs)) (λ c. cond (alive_at alive c) 1 0) refl (λ c cs. refl) (up_from 0 n))
 
 -- ---- "time, live contracts, paid by participant"
 

@@ -98,9 +98,9 @@ module _ (t : List ℕ) (l : Book) (c b : ℕ) (ok : Ready t) (f : Fit t l) wher
         first : (live (sheet_in t) as_plain c b & not (is_renewal (the_branch (sheet_in t) as_plain c b).action)) ≡ true
         first = and_i _ _ (live-is t l f c b h e k) (ap not (renewal-entry ∙ ne_eqb _ 3 n))
 
-        pub fire_late : {m : ℕ} → m ≡ not_yet (people t) (held t) q l.time (get_or l.signed (c * 16 + b) 0) → (m ≡ 0 → ⊥) → Does t l (fire c b) (with_answer l m)
+        pub fire_late : {m n : ℕ} → m ≡ get_or l.signed (c * 16 + b) 0 → n ≡ not_yet (people t) (held t) q l.time m → (n ≡ 0 → ⊥) → Does t l (fire c b) (with_answer l n)
         unfolding refusal
-        fire_late {m} x z = refused_by t l (fire c b) m f z (ask_yes _ _ _ first ∙ late _ _ m _ (back_is ∙ sym x) z)
+        fire_late {m} {n} y x z = refused_by t l (fire c b) n f z (ask_yes _ _ _ first ∙ late _ _ n _ (back_is ∙ ap (not_yet (people t) (held t) q l.time) (sym y) ∙ sym x) z)
 
         asks_rest : not_yet (people t) (held t) q l.time (get_or l.signed (c * 16 + b) 0) ≡ 0
             → refusal (sheet_in t) as_plain (fire c b) ≡ ask (revealed (commitment_at as_plain (contract_at as_plain c).set) (the_branch (sheet_in t) as_plain c b).action) 17 0
@@ -230,5 +230,5 @@ module _ (t : List ℕ) (l : Book) (c b q : ℕ) (ok : Ready t) (f : Fit t l) (r
 
 -- what the code read makes a branch enabled
 pub enabled_by : (t : List ℕ) (l : Book) (c b q : ℕ) {m : ℕ} → c < l.made → alive_at l.alive c ≡ true → b < branch_count (held t) (get_or l.node c 0)
-    → q ≡ branch_number (held t) (get_or l.node c 0) b → m ≡ not_yet (people t) (held t) q l.time (get_or l.signed (c * 16 + b) 0) → m ≡ 0 → Enabled t l c b q
-enabled_by t l c b q h e k eq em z = record { here = h; lives = e; there = k; entry = eq; ready = sym em ∙ z }
+    → q ≡ branch_number (held t) (get_or l.node c 0) b → m ≡ get_or l.signed (c * 16 + b) 0 → 0 ≡ not_yet (people t) (held t) q l.time m → Enabled t l c b q
+enabled_by t l c b q h e k eq y z = record { here = h; lives = e; there = k; entry = eq; ready = ap (not_yet (people t) (held t) q l.time) (sym y) ∙ sym z }

@@ -4,6 +4,7 @@ use mathlib.Core.Bool.{Bool, true, false}
 use mathlib.Core.Path.{◌≡◌, refl, sym, ap, ap₂, ◌∙◌, subst}
 use mathlib.Core.List.{List}
 use mathlib.Core.Logic.{◌⊎◌, inl, inr, by_cases}
+use Rattle.std.specs.Prelude.{None}
 use native.Mathlib.Decide.{dec_le}
 use native.Mathlib.Omega.{arith}
 use lib.ListN.{get_or, length}
@@ -20,8 +21,17 @@ use Rattle.tables.specs.Entries.{held, people}
 use Rattle.tables.specs.SheetOf.{branch_count, branch_number, branch_of, sheet_of, sheet_in}
 use Rattle.tables.proofs.SheetOf.{count_of, branch_of_lem, branch-small}
 use Rattle.tables.proofs.Runs.{first_of-length, first_of_get_d, first_of_past}
+use Rattle.tables.specs.Kinds.{code}
+use Rattle.tables.specs.declared.Kind.{Kind}
+use Rattle.tables.specs.declared.Kind.TheVariants.{Withdraw, Split, Reveal, Renew}
+use Rattle.tables.specs.contracts.Kind.{the_type as the_kind}
+use denote.Enum.Bare.{sameb}
+use Rattle.refusals.specs.Numbers.{number}
+use Rattle.refusals.specs.declared.Refusal.{Refusal}
+use Rattle.refusals.specs.declared.Refusal.TheVariants.{TooLong, Missing, NotDue, OutOfRange, Repeated, Unknown, OverLimit, NoWeight, TooMany, SecondRow, MissingRow, NotOwn, RankTooLow, NoBranch, TooEarly, Signature, Secret, ValueCount, LedgerLimit, ShortText, OutOfOrder}
 use Rattle.sheets.specs.Ready.{Ready}
 use Rattle.duties.proofs.Payable.{payable}
+use Rattle.pages.specs.Pages.{cells_long}
 use Rattle.counts.specs.Book.{Book}
 use Rattle.counts.specs.View.{alive_at, view, contract_of, set_of, secret_of}
 use Rattle.counts.specs.Fit.{Fit}
@@ -178,23 +188,59 @@ module _ (t : List ℕ) (l : Book) where
     pub live-is : alive_at l.alive c ≡ true → b < branch_count (held t) (get_or l.node c 0) → live (sheet_in t) (view (people t) l) c b ≡ true
     live-is e k = and_i _ _ (ap (λ k. k.alive) (contract_of_lem c h) ∙ e) (lt-ltb b _ (let z = branches in omega arith))
 
-    pub live_absent : {q : ℕ} → Finds t l.made l.node l.alive c b q → q ≡ 1024 → live (sheet_in t) (view (people t) l) c b ≡ false
-    live_absent x e = go (alive_at l.alive c) refl
+    pub live_absent : Finds t l.made l.node l.alive c b None → live (sheet_in t) (view (people t) l) c b ≡ false
+    live_absent x = go (alive_at l.alive c) refl
       where
         go : (a : Bool) → alive_at l.alive c ≡ a → live (sheet_in t) (view (people t) l) c b ≡ false
-        go true z = live-none (x.none e h z)
+        go true z = live-none (x h z)
         go false z = live-dead c b h z
 
     pub branch-is : b < branch_count (held t) (get_or l.node c 0) → the_branch (sheet_in t) (view (people t) l) c b ≡ branch_of (held t) (branch_number (held t) (get_or l.node c 0) b)
     branch-is k = ap (λ n. branch_at (sheet_in t) n b) node-is ∙ branch_of_lem (people t) (held t) (get_or l.node c 0) b (f.node c h) k
 
 -- no such contract or branch
-pub absent : (t : List ℕ) (l : Book) (c b : ℕ) {q : ℕ} → Fit t l → Finds t l.made l.node l.alive c b q → q ≡ 1024 → live (sheet_in t) (view (people t) l) c b ≡ false
-absent t l c b f x e = by_cases (dec_le l.made c) (live_unknown t l c b) (λ h. live_absent t l f c b (omega arith) x e)
+pub absent : (t : List ℕ) (l : Book) (c b : ℕ) → Fit t l → Finds t l.made l.node l.alive c b None → live (sheet_in t) (view (people t) l) c b ≡ false
+absent t l c b f x = by_cases (dec_le l.made c) (live_unknown t l c b) (λ h. live_absent t l f c b (omega arith) x)
+
+-- what the code says of a refusal and of a kind
+pub number-some : (r : Refusal) → number r ≡ 0 → ⊥
+number-some TooLong e = omega arith
+number-some Missing e = omega arith
+number-some NotDue e = omega arith
+number-some OutOfRange e = omega arith
+number-some Repeated e = omega arith
+number-some Unknown e = omega arith
+number-some OverLimit e = omega arith
+number-some NoWeight e = omega arith
+number-some TooMany e = omega arith
+number-some SecondRow e = omega arith
+number-some MissingRow e = omega arith
+number-some NotOwn e = omega arith
+number-some RankTooLow e = omega arith
+number-some NoBranch e = omega arith
+number-some TooEarly e = omega arith
+number-some Signature e = omega arith
+number-some Secret e = omega arith
+number-some ValueCount e = omega arith
+number-some LedgerLimit e = omega arith
+number-some ShortText e = omega arith
+number-some OutOfOrder e = omega arith
+
+renews : (k : Kind) → sameb the_kind k Renew ≡ eqb (code k) 3
+renews Withdraw = refl
+renews Split = refl
+renews Reveal = refl
+renews Renew = refl
+
+pub kind-renews : (k : Kind) {n : ℕ} → code k ≡ n → sameb the_kind k Renew ≡ true → n ≡ 3
+kind-renews k e t = eqb-true _ 3 (ap (λ n. eqb n 3) (sym e) ∙ sym (renews k) ∙ t)
+
+pub kind-other : (k : Kind) {n : ℕ} → code k ≡ n → sameb the_kind k Renew ≡ false → n ≡ 3 → ⊥
+kind-other k e t = eqb-false _ 3 (ap (λ n. eqb n 3) (sym e) ∙ sym (renews k) ∙ t)
 
 -- the numbers that the code goes by
-pub few-branches : (t : List ℕ) (l : Book) (c : ℕ) → Ready t → Fit t l → c < l.made → branch_count (held t) (get_or l.node c 0) ≤ 16
-few-branches t l c ok f h = (ok.promises.node _ (f.node c h)).few
+pub place-in : (t C : List ℕ) (l : Book) (c b : ℕ) → Ready t → Fit t l → c < l.made → b < branch_count (held t) (get_or l.node c 0) → length C ≡ cells_long → (cells_long ≤ length C) × (c < 256) × (b < 16)
+place-in t C l c b ok f h k e = (omega arith, omega (arith, f.made), omega (arith, (ok.promises.node _ (f.node c h)).few))
 
 pub entry-small : (t : List ℕ) (n b : ℕ) {q : ℕ} → q ≡ branch_number (held t) n b → b < branch_count (held t) n → q < length (held t).branches
 entry-small t n b e h = subst (λ q. q < length (held t).branches) (sym e) (branch-small (held t) n b h)

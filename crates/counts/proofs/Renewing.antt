@@ -76,9 +76,9 @@ module _ (t : List ℕ) (l : Book) (c b : ℕ) (vs : List ℕ) (ok : Ready t) (f
         first : (live (sheet_in t) was c b & is_renewal (the_branch (sheet_in t) was c b).action) ≡ true
         first = and_i _ _ (live-is t l f c b h e k) (renewal-entry t l c b ok f h e k q eq ∙ eq-eqb _ 3 w)
 
-        pub renew_late : {m : ℕ} → m ≡ not_yet (people t) (held t) q l.time (get_or l.signed (c * 16 + b) 0) → (m ≡ 0 → ⊥) → Does t l (renewal c b vs) (with_answer l m)
+        pub renew_late : {m n : ℕ} → m ≡ get_or l.signed (c * 16 + b) 0 → n ≡ not_yet (people t) (held t) q l.time m → (n ≡ 0 → ⊥) → Does t l (renewal c b vs) (with_answer l n)
         unfolding refusal
-        renew_late {m} x z = refused_by t l (renewal c b vs) m f z (ask_yes _ _ _ first ∙ late _ _ m _ (back_is t l c b ok f h e k q eq ∙ sym x) z)
+        renew_late {m} {n} y x z = refused_by t l (renewal c b vs) n f z (ask_yes _ _ _ first ∙ late _ _ n _ (back_is t l c b ok f h e k q eq ∙ ap (not_yet (people t) (held t) q l.time) (sym y) ∙ sym x) z)
 
         renew-rest : not_yet (people t) (held t) q l.time (get_or l.signed (c * 16 + b) 0) ≡ 0
             → refusal (sheet_in t) was (renewal c b vs) ≡ ask (eqb (length (committed vs)) (length (def_at (sheet_in t) (renewed_as (the_branch (sheet_in t) was c b).action)).owners)) 18 0

@@ -4,7 +4,8 @@ use mathlib.Core.Path.{◌≡◌, refl, sym, ap, ap₂, ◌∙◌, subst}
 use mathlib.Core.List.{List, [], ◌∷◌, ◌++◌, map, append_assoc}
 use native.Mathlib.Omega.{arith}
 use native.Mathlib.Nat.{mul-le-mul_left}
-use lib.ListN.{get_or, length, length-map}
+use lib.ListN.{get_or, length, take, length-map}
+use lib.Seq.{get_or-take, length-take-le}
 use lib.Dec.{leb}
 use borrow.Author.Tests.{le-leb, lt-leb}
 use Rattle.bitml.specs.Lists.{sum, up_from}
@@ -68,6 +69,27 @@ shares-length : (E : Entries) (q v s : ℕ) → length (shares E q v s) ≡ part
 unfolding part_count
 shares-length E q v s = splitting-length v (weight_of E q) v s (map (part_of E) (part_numbers E q)) ∙ length-map (part_numbers E q) (part_of E)
 
+-- the parts as they are read, and those before the last
+module _ (E : Entries) (q : ℕ) {xs : List ℕ} (e : xs ≡ part_numbers E q) where
+  pub parts-length : length xs ≡ part_count E q
+  unfolding part_count
+  parts-length = ap (λ xs. length xs) e
+
+  pub part-is : (i : ℕ) → get_or xs i 0 ≡ part_number E q i
+  unfolding part_number
+  part-is i = ap (λ xs. get_or xs i 0) e
+
+  pub before_last : length (take (length xs - 1) xs) ≡ part_count E q - 1
+  before_last = length-take-le (length xs - 1) xs (omega arith) ∙ ap (λ n. n - 1) parts-length
+
+  pub part-before : (i : ℕ) → i < length (take (length xs - 1) xs) → get_or (take (length xs - 1) xs) i 0 ≡ part_number E q i
+  part-before i h = get_or-take (length xs - 1) xs i 0 (omega (arith, length-take-le (length xs - 1) xs (omega arith))) ∙ part-is i
+
+  pub part-last : (i : ℕ) → i + 1 ≤ part_count E q → length (take (length xs - 1) xs) ≤ i → (get_or xs (length xs - 1) 0 ≡ part_number E q i) × (i + 1 ≡ part_count E q)
+  part-last i h k =
+      let last : length xs - 1 ≡ i = omega (arith, before_last, parts-length) in
+      (part-is (length xs - 1) ∙ ap (part_number E q) last, omega (arith, before_last, parts-length))
+
 -- ---- between two parts: r has the contracts of the first i
 
 pub record Splits (t : List ℕ) (l : Book) (q v s : ℕ) (r : Book) (left i : ℕ) : Type 0 where
@@ -79,22 +101,23 @@ pub record Splits (t : List ℕ) (l : Book) (q v s : ℕ) (r : Book) (left i : �
   pub rest : v * sum_from (weight_at (held t) q) i (part_count (held t) q) ≤ left * weight_of (held t) q
   pub small : left ≤ v
 
+module _ (t : List ℕ) (q : ℕ) (ok : Ready t) (hq : q < length (held t).branches) (w : (branch_entry_at (held t) q).kind ≡ 1) where
+  pub parts-some : 1 ≤ part_count (held t) q
+  parts-some = ((ok.promises.branch q hq).split w).some
+
+  pub weight-some : 0 < weight_of (held t) q
+  unfolding weight_of
+  weight-some = ((ok.promises.branch q hq).split w).weigh
+
 module _ (t : List ℕ) (l : Book) (q v s : ℕ) (ok : Ready t) (hq : q < length (held t).branches) (w : (branch_entry_at (held t) q).kind ≡ 1) (hs : s < l.sets)
     (room : l.made + part_count (held t) q ≤ 256) where
   abbrev E : Entries
   E = held t
 
-  pub parts-few : part_count E q ≤ 8
-  parts-few = ((ok.promises.branch q hq).split w).few
-
-  pub weight-some : 0 < weight_of E q
-  unfolding weight_of
-  weight-some = ((ok.promises.branch q hq).split w).weigh
-
   pub splits_start : Contracts t l → Splits t l q v s l v 0
   splits_start h =
       record {
-        more = omega (arith, ((ok.promises.branch q hq).split w).some);
+        more = omega (arith, parts-some t q ok hq w);
         grew = refl;
         made = omega arith;
         contracts = h;
@@ -115,7 +138,7 @@ module _ (t : List ℕ) (l : Book) (q v s : ℕ) (ok : Ready t) (hq : q < length
 
     share_is : (v * weight_at E q i / weight_of E q ≤ left) × (v * sum_from (weight_at E q) (i + 1) (part_count E q) ≤ (left - v * weight_at E q i / weight_of E q) * weight_of E q)
     share_is =
-        share_fits v (weight_at E q i) (sum_from (weight_at E q) (i + 1) (part_count E q)) left (weight_of E q) weight-some
+        share_fits v (weight_at E q i) (sum_from (weight_at E q) (i + 1) (part_count E q)) left (weight_of E q) (weight-some t q ok hq w)
         (let e = ap (λ x. v * x) (sum_more (weight_at E q) i (part_count E q) (omega (arith, sp.more))) in omega (arith, sp.rest))
 
     splits_on : i + 1 < part_count E q

@@ -1,18 +1,21 @@
 -- Storing the values of a set. Assumes nothing.
 use Prim.Native.Nat.{ℕ, zero, suc, ◌+◌, ◌*◌, ◌-◌, ◌≤◌, ◌<◌}
 use mathlib.Core.Bool.{cond}
+use mir.Val.{bool_byte}
 use mathlib.Core.Path.{◌≡◌, refl, sym, ap, ◌∙◌, subst}
 use mathlib.Core.List.{List, [], ◌∷◌, map}
 use mathlib.Core.Logic.{⊎_elim}
 use native.Mathlib.Omega.{arith}
-use lib.ListN.{get_or, set, length, length-set}
+use lib.ListN.{get_or, set, length, length-set, get_or-map}
 use lib.Seq.{get_or-set_same, get_or-set_other, ext_get_or}
 use borrow.Author.Tests.{ne_eqb}
 use Rattle.bitml.specs.Ledger.{Commitment, ill, commit}
+use Rattle.refusals.specs.Numbers.{told}
 use Rattle.bitml.proofs.Lists.{at_set}
 use Rattle.tables.specs.Entries.{first_of}
 use Rattle.tables.proofs.Runs.{first_of-length, first_of_get_d}
-use Rattle.duties.specs.Duties.{committed, state_of}
+use Rattle.duties.specs.Duties.{committed, state_of, handed}
+use Rattle.std.specs.Prelude.{Option, None, Some, is_some, unwrap_or}
 use Rattle.pages.specs.Pages.{Pages, size, pages_in, put, with_secret, nodes, balances, set_numbers, lives, definitions, secret_counts, states, values, payments, signatures}
 use Rattle.pages.proofs.Laws.{page_long}
 use Rattle.counts.specs.declared.Counts.{Counts}
@@ -88,6 +91,22 @@ module _ {state value : List ℕ} (i : ℕ) (vs : List ℕ) (n : ℕ) (state' va
     three_states = λ f k. at_set (λ y. y ≤ 2) state' (i * 8 + n) k (state_of (get_or vs n 0)) 0 (s.three_states f k) (λ e. few-states (get_or vs n 0));
   }
 
+-- a value as the code has it: its state and its number
+state-at : (v : Option ℕ) → bool_byte (is_some v) ≡ state_of (handed v)
+unfolding state_of
+state-at None = refl
+state-at (Some v) = refl
+
+number-at : (v : Option ℕ) → unwrap_or v 0 ≡ handed v - 1
+number-at None = refl
+number-at (Some v) = let z : v ≡ suc v - 1 = omega arith in z
+
+pub state_is : (vs : List (Option ℕ)) (j : ℕ) → bool_byte (is_some (get_or vs j None)) ≡ state_of (get_or (map handed vs) j 0)
+state_is vs j = state-at (get_or vs j None) ∙ ap state_of (sym (get_or-map handed vs j None))
+
+pub number_is : (vs : List (Option ℕ)) (j : ℕ) → unwrap_or (get_or vs j None) 0 ≡ get_or (map handed vs) j 0 - 1
+number_is vs j = number-at (get_or vs j None) ∙ ap (λ v. v - 1) (sym (get_or-map handed vs j None))
+
 -- ---- the same of pages
 
 pub stores_none : (C : List ℕ) (i : ℕ) (vs : List ℕ) → Stores (pages_in C) i vs 0 (pages_in C)
@@ -107,11 +126,14 @@ module _ {P : Pages} (i : ℕ) (vs : List ℕ) (n : ℕ) (Q : Pages) (s : Stores
         others = λ s' a b. put_off values (i * 8 + n) _ s' (put states (i * 8 + n) _ Q) b ∙ put_off states (i * 8 + n) _ s' Q a ∙ s.others s' a b;
       }))
 
+pub stores_same : {P Q : Pages} {i : ℕ} {vs : List ℕ} {m n : ℕ} → m ≡ n → Stores P i vs m Q → Stores P i vs n Q
+stores_same {P} {Q} {i} {vs} e s = subst (λ n. Stores P i vs n Q) e s
+
 -- the ledger with such pages has but other secrets
 pub stored-book : (l : Counts) {P : Pages} {i : ℕ} {vs : List ℕ} {n : ℕ} {Q : Pages} → Stores P i vs n Q → book l Q ≡ with_secrets (book l P) (Q states) (Q values)
 stored-book l {P} {Q = Q} s = λ k.
     record {
-      answer = l.answer;
+      answer = told l.answer;
       time = l.time;
       made = l.made;
       sets = l.sets;

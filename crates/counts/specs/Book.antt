@@ -1,5 +1,7 @@
 -- The ledger with what its cells hold, as one record. Assumes nothing.
-use Rattle.std.specs.Prelude.{ℕ, List}
+use Rattle.std.specs.Prelude.{ℕ, List, Some}
+use Rattle.refusals.specs.Numbers.{told}
+use Rattle.refusals.specs.declared.Refusal.{Refusal}
 use Rattle.pages.specs.Pages.{Pages, nodes, balances, set_numbers, lives, definitions, secret_counts, states, values, payments, signatures}
 use Rattle.counts.specs.declared.Counts.{Counts}
 
@@ -26,7 +28,7 @@ pub record Book : Type 0 where
 abbrev pub book : Counts → Pages → Book
 book l P =
     record {
-      answer = l.answer;
+      answer = told l.answer;
       time = l.time;
       made = l.made;
       sets = l.sets;
@@ -42,3 +44,7 @@ book l P =
       state = P states;
       paid = P payments;
     }
+
+-- The same ledger, with the refusal of an event
+abbrev pub refused_by : Counts → Refusal → Counts
+refused_by l r = record { answer = Some r; time = l.time; made = l.made; sets = l.sets; taken = l.taken }

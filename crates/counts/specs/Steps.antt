@@ -1,5 +1,5 @@
 -- What stands between the steps of one event. Assumes nothing.
-use Rattle.std.specs.Prelude.{◌≡◌, ℕ, suc, ◌+◌, ◌-◌, ◌*◌, ◌≤◌, ◌<◌, Bool, true, List, map, ◌++◌, length, get_or, set, leb}
+use Rattle.std.specs.Prelude.{◌≡◌, ℕ, suc, ◌+◌, ◌-◌, ◌*◌, ◌≤◌, ◌<◌, Bool, true, Option, None, Some, List, map, ◌++◌, length, get_or, leb}
 use Rattle.bitml.specs.Lists.{◌&◌}
 use Rattle.bitml.specs.Ledger.{Contract, splitting}
 use Rattle.tables.specs.Entries.{Entries, held, people, first_of}
@@ -10,10 +10,10 @@ use Rattle.counts.specs.Book.{Book}
 use Rattle.counts.specs.View.{alive_at, contract_of}
 use Rattle.counts.specs.Fit.{Lengths, FreeContracts}
 
--- "Contract alive": branch b of contract c is entry q of the sheet, and where there is no such contract or branch, q is 1,024, which is none
-pub record Finds (t : List ℕ) (made : ℕ) (node alive : List ℕ) (c b q : ℕ) : Type 0 where
-  pub none : q ≡ 1024 → c < made → alive_at alive c ≡ true → branch_count (held t) (get_or node c 0) ≤ b
-  pub some : (q ≡ 1024 → ⊥) → (c < made) × (alive_at alive c ≡ true) × (b < branch_count (held t) (get_or node c 0)) × (q ≡ branch_number (held t) (get_or node c 0) b)
+-- "Contract alive": branch b of contract c is entry q of the sheet, or there is no such contract or branch
+abbrev pub Finds : List ℕ → ℕ → List ℕ → List ℕ → ℕ → ℕ → Option ℕ → Type 0
+Finds t made node alive c b None = c < made → alive_at alive c ≡ true → branch_count (held t) (get_or node c 0) ≤ b
+Finds t made node alive c b (Some q) = (c < made) × (alive_at alive c ≡ true) × (b < branch_count (held t) (get_or node c 0)) × (q ≡ branch_number (held t) (get_or node c 0) b)
 
 -- "Contract alive, opening time not above time, all signers signed": branch b of contract c, which is entry q of the sheet
 pub record Enabled (t : List ℕ) (l : Book) (c b q : ℕ) : Type 0 where

@@ -1,29 +1,26 @@
 -- Secrets of a set: told or not, and values as they are handed over. Assumes nothing.
 use Prim.Native.Nat.{ℕ, zero, suc, ◌+◌, ◌-◌, ◌≤◌, ◌<◌}
-use mathlib.Core.Bool.{Bool, true, false}
-use mathlib.Core.Path.{◌≡◌, refl, sym, ap, ◌∙◌, subst}
+use mathlib.Core.Bool.{Bool, false}
+use lib.Dec.{leb}
+use mathlib.Core.Path.{◌≡◌, sym, ap, ◌∙◌, subst}
 use mathlib.Core.List.{List, [], ◌∷◌}
 use native.Mathlib.Omega.{arith}
 use lib.ListN.{length, get_or, take, drop, length-drop, get_or-eq_default}
 use lib.Seq.{length-take-le, get_or-take, get_or-drop}
-use borrow.Author.Tests.{lt-ltb, le-ltb, le-leb, lt-leb}
+use borrow.Author.Tests.{lt-ltb, le-ltb}
 use Rattle.bitml.specs.Sheet.{Cond, holds}
-use Rattle.bitml.proofs.Lists.{and_i, and_false, and_no}
+use Rattle.bitml.proofs.Lists.{and_false, and_true}
 use Rattle.truth.specs.Evaluation.{Values, numbers}
-use Rattle.duties.specs.Duties.{told_at, number_at, state_of}
+use Rattle.duties.specs.Duties.{told_at, number_at}
 
 module _ (state : List ℕ) (base known j : ℕ) where
   pub told_past : known ≤ j → told_at state base known j ≡ false
   unfolding told_at
   told_past h = and_false _ _ (le-ltb j known h)
 
-  pub told-not : get_or state (base + j) 0 < 2 → told_at state base known j ≡ false
+  pub told_known : j < known → told_at state base known j ≡ leb 2 (get_or state (base + j) 0)
   unfolding told_at
-  told-not h = and_no _ _ (lt-leb 2 _ h)
-
-  pub told_yes : j < known → 2 ≤ get_or state (base + j) 0 → told_at state base known j ≡ true
-  unfolding told_at
-  told_yes h k = and_i _ _ (lt-ltb j known h) (le-leb 2 _ k)
+  told_known h = and_true _ _ (lt-ltb j known h)
 
 module _ (value : List ℕ) (base known : ℕ) where
   pub number_in : (j : ℕ) → j < known → number_at value base known j ≡ get_or value (base + j) 0
@@ -46,12 +43,3 @@ lent-values value base n v = record { most = take-most n 1000000000 (drop base v
 
 pub lent-holds : (value : List ℕ) (base known : ℕ) (C : Cond) {r : Bool} → r ≡ holds (numbers (take (base + known - base) (drop base value))) C → r ≡ holds (number_at value base known) C
 lent-holds value base known C e = e ∙ ap (λ n. holds (numbers (take n (drop base value))) C) (let z : base + known - base ≡ known = omega arith in z)
-
-pub state-none : (v : ℕ) → v ≡ 0 → 0 ≡ state_of v
-unfolding state_of
-state-none v e = rw e
-
-pub state-some : (v : ℕ) → (v ≡ 0 → ⊥) → 1 ≡ state_of v
-unfolding state_of
-state-some zero n = absurd (n refl)
-state-some (suc v) n = refl

@@ -1,19 +1,22 @@
--- Who signs, by a participant's number; the loop over signers; what adding a clear bit does. Assumes nothing.
+-- Who signs, by a participant's number; whether all have; what adding a clear bit does. Assumes nothing.
 use Prim.Native.Nat.{ℕ, zero, suc, min, ◌+◌, ◌*◌, ◌-◌, ◌/◌, ◌%◌, ◌^◌, ◌≤◌, ◌<◌}
 use mathlib.Core.Bool.{Bool, true, false, true≢false, not}
 use mathlib.Core.Path.{◌≡◌, refl, sym, ap, ap₂, ◌∙◌}
 use mathlib.Core.Logic.{◌⊎◌, inl, inr, ⊎_elim}
 use native.Mathlib.Omega.{arith}
-use native.Mathlib.Numerals.{one-add}
-use native.Mathlib.Nat.{min-le_left, pow-zero, pow-succ'}
+use native.Mathlib.Nat.{pow-zero, pow-succ'}
+use mir.Syntax.{w64}
 use lib.Dec.{eqb}
-use lib.Bits.{bit_and, and_step, and_le_l, and_high}
+use lib.Bits.{bit_and}
 use lib.Pow.{pow_pos}
-use borrow.Author.Tests.{eq-eqb, ne_eqb, le-leb, lt-leb, not-true, not-false}
-use Rattle.bitml.specs.Lists.{◌&◌, ◌⇒◌, ask, every, up_from}
-use Rattle.bitml.proofs.Lists.{and_false, and_true, ask_no, ask_yes}
-use Rattle.bitml.proofs.Counting.{up_one, up-end}
-use Rattle.sheets.proofs.Bits.{bit, bit_suc, bit_zero, none-zero, two}
+use borrow.Author.Tests.{eq-eqb, ne_eqb, le-leb, lt-leb}
+use Rattle.std.specs.Int.{bit_not}
+use Rattle.std.specs.List.{list_all, range_with_len}
+use Rattle.std.proofs.lemmas.Nat.Bits.{and_pow, bit_at_and, bit_at_not, bit_at-zero}
+use Rattle.bitml.specs.Lists.{◌⇒◌, ask, below}
+use Rattle.bitml.proofs.Lists.{ask_no, ask_yes, every_by_mem, all_of, up_mem}
+use Rattle.sheets.proofs.Bits.{bit, bit_suc, bit_zero, two}
+use Rattle.sheets.proofs.Chains.{all-in}
 use Rattle.tables.specs.Entries.{Entries}
 use Rattle.tables.specs.SheetOf.{branch_entry_at}
 use Rattle.duties.specs.Duties.{covers, not_yet}
@@ -23,9 +26,7 @@ use Rattle.duties.specs.Duties.{covers, not_yet}
 module _ (x p : ℕ) where
   -- what a number has in common with 2 ^ p
   and_bit : {b : ℕ} → bit x p ≡ b → bit_and x (2 ^ p) ≡ b * 2 ^ p
-  and_bit e =
-      ap (bit_and x) (let z = pow-succ' 2 p in let w : 2 ^ p ≡ 2 ^ (1 + p) - 2 ^ p = rw one-add (omega arith) in w)
-      ∙ and_high x 1 p ∙ ap (λ b. b * 2 ^ p) e
+  and_bit e = and_pow x p ∙ ap (λ b. b * 2 ^ p) e
 
   signs-not : bit x p ≡ 0 → not (eqb (bit_and x (2 ^ p)) 0) ≡ eqb (bit x p) 1
   signs-not e = ap not (eq-eqb _ 0 (let z = and_bit e in let w : bit_and x (2 ^ p) ≡ 0 = omega arith in w)) ∙ sym (ne_eqb (bit x p) 1 (λ q. omega arith))
@@ -38,58 +39,31 @@ module _ (x p : ℕ) where
 
 -- ---- all signers signed
 
--- what x has over y, by its low digit and what stands above
-rest-step : (x y : ℕ) → x - bit_and x y ≡ (x / 2 - bit_and (x / 2) (y / 2)) * 2 + (x % 2 - min (x % 2) (y % 2))
-rest-step x y = let s = and_step x y in let l = and_le_l (x / 2) (y / 2) in let m = min-le_left (x % 2) (y % 2) in omega arith
-
--- it has the bits of x that y lacks
-rest_bit : (x y i : ℕ) → bit (x - bit_and x y) i ≡ bit x i - min (bit x i) (bit y i)
-rest_bit x y zero = rw (bit_zero, bit_zero, bit_zero) (let s = rest-step x y in omega arith)
-rest_bit x y (suc i) =
-    let above : (x - bit_and x y) / 2 ≡ x / 2 - bit_and (x / 2) (y / 2) = let s = rest-step x y in omega arith in
-    rw (bit_suc, bit_suc, bit_suc, above) (rest_bit (x / 2) (y / 2) i)
-
-over_digit : (a b : ℕ) → (a ≡ 0) ⊎ (a ≡ 1) → (b ≡ 0) ⊎ (b ≡ 1) → eqb (a - min a b) 1 ≡ not (eqb a 1 ⇒ eqb b 1)
+both_bits : (a b : ℕ) → (a ≡ 0) ⊎ (a ≡ 1) → (b ≡ 0) ⊎ (b ≡ 1) → not (eqb (min a (1 - b)) 1) ≡ (eqb a 1 ⇒ eqb b 1)
 unfolding ◌⇒◌
-over_digit a b (inl p) (inl q) = rw (p, q) refl
-over_digit a b (inl p) (inr q) = rw (p, q) refl
-over_digit a b (inr p) (inl q) = rw (p, q) refl
-over_digit a b (inr p) (inr q) = rw (p, q) refl
+both_bits a b (inl p) (inl q) = rw (p, q) refl
+both_bits a b (inl p) (inr q) = rw (p, q) refl
+both_bits a b (inr p) (inl q) = rw (p, q) refl
+both_bits a b (inr p) (inr q) = rw (p, q) refl
 
-missing-is : (x y i : ℕ) → eqb (bit (x - bit_and x y) i) 1 ≡ not (eqb (bit x i) 1 ⇒ eqb (bit y i) 1)
-missing-is x y i = ap (λ b. eqb b 1) (rest_bit x y i) ∙ over_digit (bit x i) (bit y i) (two (x / 2 ^ i)) (two (y / 2 ^ i))
+-- those of x who are not in y
+abbrev pub missing : ℕ → ℕ → ℕ
+missing x y = bit_and x (18446744073709551615 - y)
 
--- what is left to look at after i participants
-unfoldable pub leftover : ℕ → ℕ → ℕ → ℕ → Bool
-leftover K x y i = every (λ p. eqb (x / 2 ^ p % 2) 1 ⇒ eqb (y / 2 ^ p % 2) 1) (up_from i (K - i))
+missing-bit : (x y i : ℕ) → y < 2 ^ 64 → i < 64 → not (eqb (bit (missing x y) i) 1) ≡ (eqb (bit x i) 1 ⇒ eqb (bit y i) 1)
+missing-bit x y i h l =
+    ap (λ b. not (eqb b 1)) (bit_at_and x (bit_not w64 y) i ∙ ap (min (bit x i)) (bit_at_not w64 y i h l))
+    ∙ both_bits (bit x i) (bit y i) (two (x / 2 ^ i)) (two (y / 2 ^ i))
 
-module _ (K x y : ℕ) where
-  pub cover_start : leftover K x y 0 ≡ covers K x y
-  unfolding covers leftover
-  cover_start = ap (λ n. every (λ p. eqb (x / 2 ^ p % 2) 1 ⇒ eqb (y / 2 ^ p % 2) 1) (up_from 0 n)) (let z : K - 0 ≡ K = omega arith in z)
+module _ (K x y : ℕ) (few : K ≤ 16) (h : y < 2 ^ 64) where
+  pub covered : list_all (λ p. not (eqb (missing x y / 2 ^ p % 2) 1)) (range_with_len 0 K) ≡ covers K x y
+  unfolding covers
+  covered = all-in (λ p. not (eqb (missing x y / 2 ^ p % 2) 1)) (λ p. eqb (x / 2 ^ p % 2) 1 ⇒ eqb (y / 2 ^ p % 2) 1) 0 K (λ i a b. missing-bit x y i h (omega arith))
 
-  module _ (i : ℕ) (h : i < K) where
-    first : leftover K x y i ≡ ((eqb (bit x i) 1 ⇒ eqb (bit y i) 1) & leftover K x y (i + 1))
-    unfolding leftover
-    first = ap (every (λ p. eqb (x / 2 ^ p % 2) 1 ⇒ eqb (y / 2 ^ p % 2) 1)) (up_one i K h)
-
-    pub cover_bad : eqb (bit (x - bit_and x y) i) 1 ≡ true → leftover K x y i ≡ false
-    cover_bad e = first ∙ and_false _ _ (not-true _ (sym (missing-is x y i) ∙ e))
-
-    pub cover_good : eqb (bit (x - bit_and x y) i) 1 ≡ false → leftover K x y i ≡ leftover K x y (i + 1)
-    cover_good e = first ∙ and_true _ _ (not-false _ (sym (missing-is x y i) ∙ e))
-
-  pub cover_end : (i : ℕ) → K ≤ i → leftover K x y i ≡ true
-  unfolding leftover
-  cover_end i h = ap (every (λ p. eqb (x / 2 ^ p % 2) 1 ⇒ eqb (y / 2 ^ p % 2) 1)) (up-end i K h)
-
-  -- nothing is missing
-  pub cover_all : x - bit_and x y ≡ 0 → true ≡ covers K x y
-  cover_all e = sym (sym cover_start ∙ go K 0 (omega arith))
-    where
-      go : (n i : ℕ) → K ≡ i + n → leftover K x y i ≡ true
-      go zero i h = cover_end i (omega arith)
-      go (suc n) i h = cover_good i (omega arith) (ap (λ z. eqb (bit z i) 1) e ∙ ne_eqb (bit 0 i) 1 (λ q. let z = none-zero i in omega arith)) ∙ go n (i + 1) (omega arith)
+  pub none-missing : missing x y ≡ 0 → eqb (missing x y) 0 ≡ covers K x y
+  unfolding covers
+  none-missing e = eq-eqb _ _ e ∙ sym (every_by_mem (λ p. eqb (x / 2 ^ p % 2) 1 ⇒ eqb (y / 2 ^ p % 2) 1) (below K) λ p m.
+      let l = all_of (up_mem 0 K) m in sym (missing-bit x y p h (omega (arith, l.1))) ∙ ap (λ b. not (eqb b 1)) (ap (λ z. bit z p) e ∙ bit_at-zero p))
 
 -- ---- what holds an entry back
 

@@ -1,6 +1,7 @@
 -- What a branch asks of signatures and secrets, by the numbers that a program's ledger holds. Assumes nothing.
 use Rattle.std.specs.Prelude.{ℕ, zero, suc, ◌+◌, ◌/◌, ◌%◌, ◌^◌, Bool, List, map, get_or, take, drop, eqb, ltb, leb}
 use Rattle.std.proofs.Math.Option.{Option, none, some as the}
+use Rattle.std.specs.Prelude as code
 use Rattle.bitml.specs.Lists.{◌&◌, ◌⇒◌, ask, sum, every, below}
 use Rattle.tables.specs.Entries.{Entries}
 use Rattle.tables.specs.SheetOf.{node_entry_at, branch_entry_at, part_numbers, deposit_of}
@@ -30,7 +31,16 @@ weight_of E b = sum (map (λ n. (node_entry_at E n).weight) (part_numbers E b))
 unfoldable pub deposits_of : ℕ → Entries → ℕ → ℕ
 deposits_of K E d = sum (map (deposit_of E d) (below K))
 
--- ---- "a value or `x` per secret", as it is handed over: 0 for `x`, else one more than the number
+-- ---- "a value or `x` per secret", as it is handed over: none for `x`
+
+abbrev pub meant : code.Option ℕ → Option ℕ
+meant code.None = none
+meant (code.Some v) = the v
+
+-- as one number: 0 for `x`, else one more than the number
+abbrev pub handed : code.Option ℕ → ℕ
+handed code.None = 0
+handed (code.Some v) = suc v
 
 abbrev pub given : ℕ → Option ℕ
 given zero = none

@@ -2,18 +2,17 @@
 
 #![tactic(auto)]
 
-ghost use Rattle.std.specs.Prelude.{◌≡◌, map, ◌+◌, ◌-◌, ◌/◌, ◌%◌, ◌^◌, ◌≤◌, ◌<◌, eqb, length};
+ghost use Rattle.std.specs.Prelude.{◌≡◌, map, ◌+◌, ◌/◌, ◌%◌, ◌^◌, ◌≤◌, ◌<◌, eqb, length};
 ghost use Rattle.bitml.specs.Lists.{every, up_from};
 ghost use Rattle.bitml.specs.Sheet.{holds};
 ghost use Rattle.tables.specs.Entries.{held, people};
 ghost use Rattle.tables.specs.SheetOf.{branch_entry_at, listed_at, cond_at};
-ghost use Rattle.sheets.specs.Ready.{Ready, Indexed};
+ghost use Rattle.refusals.specs.Numbers.{told};
 ghost use Rattle.truth.specs.Evaluation.{Values};
-ghost use Rattle.duties.specs.Duties.{covers, not_yet, told_at, number_at, weight_of, deposits_of, state_of};
+ghost use Rattle.duties.specs.Duties.{covers, not_yet, told_at, number_at, weight_of, deposits_of};
 
-use sheets::{
-    branch_opens, branch_signers, def_deposit, listed_at, node_weight, part_count, part_of, people,
-};
+use refusals::Refusal;
+use sheets::{Index, Table};
 use tables::mask_of;
 use truth::condition_holds;
 
@@ -30,124 +29,73 @@ pub fn all_signed(people: usize, signers: usize, mask: usize) -> bool
     requires { people ≤ 16 }
     ensures { result ≡ covers people signers mask }
 {
-    // those who have not
-    let missing = signers - (signers & mask);
-    if missing == 0 {
-        return true;
-    }
-    let mut i = 0;
-    while i < people {
-        if signs(missing, i) {
-            return false;
-        }
-        i += 1;
-    }
-    true
+    let missing = signers & !mask;
+    missing == 0 || (0..people).all(|p| !signs(missing, p))
 }
 
-// What holds entry q back: 15 before its opening time, 16 while a signature is missing in mask, else 0.
-pub fn held_back(t: &[usize], q: usize, time: usize, mask: usize) -> usize
-    requires ready { Ready t.now }
-    requires q_in_bounds { q < length (held t.now).branches }
-    ensures { result ≡ not_yet (people t.now) (held t.now) q time mask }
+// What holds entry q back: it does not open before its time, and its signers have to have signed by mask.
+pub fn held_back(table: Table, q: usize, time: usize, mask: usize) -> Option<Refusal>
+    requires q_in_bounds { q < length (held table.cells.now).branches }
+    ensures { told result ≡ not_yet (people table.entry.cells.now) (held table.entry.cells.now) q time mask }
 {
-    if time < branch_opens(t, q) {
-        return 15;
+    let branch = table.branch(q);
+    if time < branch.opens {
+        return Some(Refusal::TooEarly);
     }
-    let k = people(t);
-    let signers = branch_signers(t, q);
-    if all_signed(k, signers, mask) {
-        return 0;
+    if !all_signed(table.people(), branch.signers, mask) {
+        return Some(Refusal::Signature);
     }
-    16
+    None
 }
 
-// The secrets that are listed from first on are told in the set whose known secrets start at base.
+// Secret j is told in the set whose known secrets start at base.
+fn is_told(state: &[usize], base: usize, known: usize, j: usize) -> bool
+    requires known_in_bounds { base + known ≤ length state.now }
+    ensures { result ≡ told_at state.now base known j }
+{
+    j < known && 2 <= state[base + j]
+}
+
+// The secrets that are listed from first on are told there. States and the set's place in them stay apart, as the definition has them.
 pub fn all_told(
-    t: &[usize],
+    table: Table,
     state: &[usize],
     base: usize,
     known: usize,
     first: usize,
     count: usize,
 ) -> bool
-    requires ready { Ready t.now }
-    requires known_in_bounds { (base + known ≤ length state.now) × (first + count ≤ length (held t.now).listed) }
-    ensures { result ≡ every (told_at state.now base known) (map (listed_at (held t.now)) (up_from first count)) }
+    requires known_in_bounds { (base + known ≤ length state.now) × (first + count ≤ length (held table.cells.now).listed) }
+    ensures { result ≡ every (told_at state.now base known) (map (listed_at (held table.entry.cells.now)) (up_from first count)) }
 {
-    let mut i = 0;
-    while i < count {
-        let j = listed_at(t, first + i);
-        if known <= j {
-            return false;
-        }
-        if state[base + j] < 2 {
-            return false;
-        }
-        i += 1;
-    }
-    true
+    (first..first + count).all(|i| is_told(state, base, known, table.listed_at(i)))
 }
 
 // Whether the condition whose cells start at c holds, by the numbers of the set whose known secrets start at base.
-pub fn holds_for(t: &[usize], value: &[usize], base: usize, known: usize, c: usize) -> bool
-    requires ready { Ready t.now }
-    requires known_in_bounds { (base + known ≤ length value.now) × (length value.now ≡ 256) × (c < length (held t.now).cells) }
+pub fn holds_for(table: Table, value: &[usize], base: usize, known: usize, c: usize) -> bool
+    requires known_in_bounds { (base + known ≤ length value.now) × (length value.now ≡ 256) × (c < length (held table.cells.now).cells) }
     requires values { Values value.now }
-    ensures { result ≡ holds (number_at value.now base known) (cond_at (held t.now) c) }
+    ensures { result ≡ holds (number_at value.now base known) (cond_at (held table.entry.cells.now) c) }
 {
-    condition_holds(t, c, &value[base..base + known])
+    condition_holds(table, c, &value[base..base + known])
 }
 
 // The weights of the parts of branch b together.
-pub fn weigh(t: &[usize], x: &[usize], b: usize) -> usize
-    requires ready { Ready t.now }
-    requires indexed { Indexed (held t.now) x.now }
-    requires b_in_bounds { (b < length (held t.now).branches) × ((branch_entry_at (held t.now) b).kind ≡ 1) }
-    ensures { result ≡ weight_of (held t.now) b }
+pub fn weigh(index: Index, b: usize) -> usize
+    requires b_in_bounds { (b < length (held index.table.cells.now).branches) × ((branch_entry_at (held index.table.cells.now) b).kind ≡ 1) }
+    ensures { result ≡ weight_of (held index.entry.table.cells.now) b }
 {
-    let count = part_count(t, x, b);
-    let mut sum: usize = 0;
-    let mut i = 0;
-    while i < count {
-        let n = part_of(t, x, b, i);
-        sum += node_weight(t, n);
-        i += 1;
-    }
-    sum
+    index
+        .parts_of(b)
+        .iter()
+        .map(|&n| index.table.node(n).weight)
+        .sum()
 }
 
 // The deposits of definition d together.
-pub fn deposits(t: &[usize], d: usize) -> usize
-    requires ready { Ready t.now }
-    requires d_in_bounds { d < length (held t.now).defs }
-    ensures { result ≡ deposits_of (people t.now) (held t.now) d }
+pub fn deposits(table: Table, d: usize) -> usize
+    requires d_in_bounds { d < length (held table.cells.now).defs }
+    ensures { result ≡ deposits_of (people table.entry.cells.now) (held table.entry.cells.now) d }
 {
-    let k = people(t);
-    let mut sum: usize = 0;
-    let mut p = 0;
-    while p < k {
-        sum += def_deposit(t, d, p);
-        p += 1;
-    }
-    sum
-}
-
-// A value as it is handed over, 0 for `x` and else one more than the number: its state, and its number.
-pub fn state_of(v: usize) -> usize
-    ensures { result ≡ state_of v }
-{
-    if v == 0 {
-        return 0;
-    }
-    1
-}
-
-pub fn number_of(v: usize) -> usize
-    ensures { result ≡ v - 1 }
-{
-    if v == 0 {
-        return 0;
-    }
-    v - 1
+    (0..table.people()).map(|p| table.deposit(d, p)).sum()
 }

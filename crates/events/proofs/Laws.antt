@@ -1,15 +1,15 @@
 -- Laws of the definitions: one value of a renewal more.
-use Prim.Native.Nat.{ℕ, suc, ◌+◌, ◌-◌, ◌<◌, ◌≤◌}
+use Prim.Native.Nat.{ℕ, suc, ◌+◌, ◌-◌, ◌<◌}
 use mathlib.Core.Bool.{Bool, true, false, cond, ◌&&◌}
 use mathlib.Core.List.{List}
 use mathlib.Core.Path.{◌≡◌, refl, sym, ap, ◌∙◌}
 use native.Mathlib.Omega.{arith}
 use lib.ListN.{length, get_or}
 use lib.Dec.{ltb, leb, eqb}
-use Rattle.fields.specs.Field.{Num, Is, Not, up_to, comma, spelled, after_comma, when_read, number_at, number_of, text_at, end_at, packed_of, word_from, word_at}
-use Rattle.fields.specs.declared.Got.{Got}
-use Rattle.fields.specs.declared.Got.TheVariants.{Value, Bad}
-use Rattle.requests.specs.declared.Commitment.TheVariants as commitment
+use Rattle.fields.specs.Field.{Num, Is, Not, up_to, comma, spelled, when_read, number_at, number_of, text_at, end_at, packed_of, word_from, word_at}
+use Rattle.fields.specs.Field.{Got}
+use Rattle.fields.specs.Field.{Value, Bad}
+use Rattle.requests.specs.Commitment as commitment
 use Rattle.requests.specs.Part.{most_value, value_at, past_of, past_value_at}
 use Rattle.events.specs.Events.{most_values, values_from}
 
@@ -49,31 +49,31 @@ a_value s at e h = either_way (eqb (packed_of (text_at s (at + 1))) (spelled "x"
 -- ---- one more
 
 module _ (s : List ℕ) (n at : ℕ) where
-  pub values-full : most_values ≤ n → Value n at ≡ values_from s (most_values - n) n at
+  pub values_full : n ≡ most_values → Value most_values at ≡ values_from s (most_values - n) n at
   unfolding values_from
-  values-full h = let j : most_values - n ≡ 0 = omega arith in rw j
+  values_full h = rw h
 
-  module _ (g : Got) (room : n < most_values) (read : g ≡ past_value_at s at) where
+  module _ (room : n < most_values) where
     one_more : most_values - n ≡ suc (most_values - (n + 1))
     one_more = omega arith
 
     -- what was read is a value, or a refusal that is not 2: so a field follows
-    there : (refusing g ≡ 2 → ⊥) → (x : Bool) → follows s at ≡ x → follows s at ≡ true
+    there : (refusing (past_value_at s at) ≡ 2 → ⊥) → (x : Bool) → follows s at ≡ x → follows s at ≡ true
     there h true e = e
-    there h false e = absurd (h (ap refusing (read ∙ no_value s at e)))
+    there h false e = absurd (h (ap refusing (no_value s at e)))
 
-    pub values-on : (v e : ℕ) → g ≡ Value v e → values_from s (most_values - (n + 1)) (n + 1) e ≡ values_from s (most_values - n) n at
+    pub values_on : (v e : ℕ) → Value v e ≡ past_value_at s at → values_from s (most_values - (n + 1)) (n + 1) e ≡ values_from s (most_values - n) n at
     unfolding values_from when_read
-    values-on v e h = rw (one_more, there (λ k. let z = sym (ap refusing h) ∙ k in omega arith) (follows s at) refl, ← read, h)
+    values_on v e h = rw (one_more, there (λ k. let z = ap refusing h ∙ k in omega arith) (follows s at) refl, ← h)
 
-    pub values-bad : (m p : ℕ) → g ≡ Bad m p → (m ≡ 2 → ⊥) → Bad m p ≡ values_from s (most_values - n) n at
+    pub values_bad : (m p : ℕ) → Bad m p ≡ past_value_at s at → (m ≡ 2 → ⊥) → Bad m p ≡ values_from s (most_values - n) n at
     unfolding values_from when_read
-    values-bad m p h k = rw (one_more, there (λ z. k (sym (ap refusing h) ∙ z)) (follows s at) refl, ← read, h)
+    values_bad m p h k = rw (one_more, there (λ z. k (ap refusing h ∙ z)) (follows s at) refl, ← h)
 
-    gone : refusing g ≡ 2 → (x : Bool) → follows s at ≡ x → follows s at ≡ false
-    gone h true e = absurd (a_value s at e (sym (ap refusing read) ∙ h))
+    gone : refusing (past_value_at s at) ≡ 2 → (x : Bool) → follows s at ≡ x → follows s at ≡ false
+    gone h true e = absurd (a_value s at e h)
     gone h false e = e
 
-    pub values-end : (m p : ℕ) → g ≡ Bad m p → m ≡ 2 → Value n at ≡ values_from s (most_values - n) n at
+    pub values_end : (m p : ℕ) → Bad m p ≡ past_value_at s at → m ≡ 2 → Value n at ≡ values_from s (most_values - n) n at
     unfolding values_from
-    values-end m p h k = rw (one_more, gone (ap refusing h ∙ k) (follows s at) refl)
+    values_end m p h k = rw (one_more, gone (sym (ap refusing h) ∙ k) (follows s at) refl)

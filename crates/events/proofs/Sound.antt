@@ -9,19 +9,22 @@ use lib.Dec.{ltb, eqb}
 use lib.ListN.{length, get_or}
 use borrow.Author.Tests.{lt-ltb, le-ltb, eqb-true}
 use Rattle.events.specs.Events.{most_wait, most_field, most_values, pair_at, after_pair, last_pair_at, wait_at, sign_at, tell_at, fire_at, values_from, values_at, renew_at, event_at, next_of, events_from, events_at}
-use Rattle.events.specs.declared.Event.{Event}
-use Rattle.events.specs.declared.Pair.{Pair}
+use Rattle.events.specs.Event.{Event}
+use Rattle.events.specs.Event.{event as event_of}
+use Rattle.events.specs.declared.Event.{Event as Code}
+use Rattle.events.specs.declared.Event.TheVariants as code
+use Rattle.events.specs.Pair.{Pair}
 use Rattle.fields.proofs.Laws.{number-max, number-end}
 use Rattle.fields.proofs.Words.{Bytes, first-long}
 use Rattle.fields.proofs.Ranges.{when_read-cases, cond_cases, never, below_end, between-end, first-end, line-end-next}
 use Rattle.fields.specs.Field.{comma, spelled, when_read, number_at, below_at, between_at, first_at, line_end_at}
-use Rattle.fields.specs.declared.Got.{Got}
-use Rattle.fields.specs.declared.Got.TheVariants.{Value, Bad}
+use Rattle.fields.specs.Field.{Got}
+use Rattle.fields.specs.Field.{Value, Bad}
 use Rattle.requests.proofs.Laws.{past_end}
 use Rattle.requests.specs.Part.{past_value_at, past_values_at}
-use Rattle.events.specs.declared.Event.TheVariants as event
-use Rattle.events.specs.declared.Pair.TheVariants as pair
-use Rattle.events.specs.declared.Lines.TheVariants as lines
+use Rattle.events.specs.Event as event
+use Rattle.events.specs.Pair as pair
+use Rattle.events.specs.Lines as lines
 
 unfoldable pub Sound : List ℕ → ℕ → ℕ → Event → Type 0
 Sound s people at (event.Wait d e) = (1 ≤ d) × (d ≤ most_wait) × (at < e) × (e ≤ length s)
@@ -30,6 +33,15 @@ Sound s people at (event.Tell i j e) = (i ≤ most_field) × (j ≤ most_field) 
 Sound s people at (event.Fire c b e) = (c ≤ most_field) × (b ≤ most_field) × (at < e) × (e ≤ length s)
 Sound s people at (event.Renew c b f n e) = (c ≤ most_field) × (b ≤ most_field) × (n ≤ most_values) × (past_values_at s n f ≡ Value 0 (e - 1)) × (at < e) × (e ≤ length s)
 Sound s people at (event.Bad n p) = Unit {0}
+
+-- where the code's reading goes on is where the next line starts
+pub next_event : (c : Code) (e : ℕ) → Value 0 e ≡ next_of (event_of c e)
+unfolding next_of
+next_event (code.Wait d) e = refl
+next_event (code.Sign p c b) e = refl
+next_event (code.Tell i j) e = refl
+next_event (code.Fire c b) e = refl
+next_event (code.Renew c b f n) e = refl
 
 -- ---- two fields
 

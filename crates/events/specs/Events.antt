@@ -1,15 +1,15 @@
 -- The event lines of `play`. A refusal is a number of document 01 and the position before its field.
 use Rattle.std.specs.Prelude.{ℕ, zero, suc, ◌+◌, ◌-◌, List, cond, ◌&&◌, length, get_or, ltb, eqb}
-use Rattle.fields.specs.declared.Got.{Got}
-use Rattle.fields.specs.declared.Got.TheVariants.{Value, Bad}
+use Rattle.fields.specs.Field.{Got}
+use Rattle.fields.specs.Field.{Value, Bad}
 use Rattle.fields.specs.Field.{comma, spelled, when_read, number_at, below_at, between_at, first_at, line_end_at}
 use Rattle.requests.specs.Part.{past_value_at}
-use Rattle.events.specs.declared.Event.{Event}
-use Rattle.events.specs.declared.Event.TheVariants as event
-use Rattle.events.specs.declared.Pair.{Pair}
-use Rattle.events.specs.declared.Pair.TheVariants as pair
-use Rattle.events.specs.declared.Lines.{Lines}
-use Rattle.events.specs.declared.Lines.TheVariants as lines
+use Rattle.events.specs.Event.{Event}
+use Rattle.events.specs.Event as event
+use Rattle.events.specs.Pair.{Pair}
+use Rattle.events.specs.Pair as pair
+use Rattle.events.specs.Lines.{Lines}
+use Rattle.events.specs.Lines as lines
 
 abbrev pub most_wait : ℕ
 most_wait = 4_294_967_295

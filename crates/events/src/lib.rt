@@ -1,12 +1,17 @@
 // The event lines of `play`. One reader serves the reading of the whole request and the play after it.
 
-#![tactic(auto)]
+#![tactic(auto, unfolding(crate::specs::Events::after_pair, crate::specs::Events::pair_at, crate::specs::Events::last_pair_at, crate::specs::Events::wait_at, crate::specs::Events::sign_at, crate::specs::Events::tell_at, crate::specs::Events::fire_at, crate::specs::Events::renew_at, crate::specs::Events::event_at, fields::specs::Field::when_read))]
 
 ghost use Rattle.std.specs.Prelude.{◌≡◌};
-ghost use Rattle.events.specs.Events.{pair_at, last_pair_at, wait_at, sign_at, tell_at, fire_at, values_at, renew_at, event_at, next_of, events_at};
+ghost use Rattle.fields.specs.Told.{told};
+ghost use Rattle.events.specs.Event.{told as told_event};
+ghost use Rattle.events.specs.Events.{pair_at, last_pair_at, wait_at, sign_at, values_at, renew_at, event_at, events_at};
+ghost use Rattle.events.specs.Lines.{told as told_lines};
+ghost use Rattle.events.specs.Pair.{told as told_pair};
 
-use fields::Got;
-use reader::{first_from, line_end_from, number_below, number_between, number_up_to};
+use fields::Refused;
+use reader::Reader;
+use refusals::Refusal;
 use requests::past_value;
 
 const WAIT: usize = ((b'w' as usize * 256 + b'a' as usize) * 256 + b'i' as usize) * 256
@@ -33,219 +38,112 @@ const LARGEST: usize = 65535;
 
 const VALUES: usize = 8;
 
-// The number of a refusal where a field is missing.
-const MISSING: usize = 2;
-
-// An event, and the position after its line; or a refusal.
+// An event.
 #[derive(Clone, Copy)]
 pub enum Event {
     // How long.
-    Wait(usize, usize),
+    Wait(usize),
     // The participant, the contract, the branch.
-    Sign(usize, usize, usize, usize),
+    Sign(usize, usize, usize),
     // The set, the secret.
-    Tell(usize, usize, usize),
+    Tell(usize, usize),
     // The contract, the branch.
-    Fire(usize, usize, usize),
+    Fire(usize, usize),
     // The contract, the branch, the position of the values and how many there are.
-    Renew(usize, usize, usize, usize, usize),
-    // A refusal: its number, and the position before its field.
-    Bad(usize, usize),
+    Renew(usize, usize, usize, usize),
 }
 
-// Two numbers and the position after them; or a refusal.
-#[derive(Clone, Copy)]
-pub enum Pair {
-    Two(usize, usize, usize),
-    Bad(usize, usize),
-}
-
-// Whether event lines can be read, all to the request's end.
-#[derive(Clone, Copy)]
-pub enum Lines {
-    Good,
-    Bad(usize, usize),
-}
-
-// The two fields after a comma at `at`, as numbers of a contract and a branch, or of a set and a secret.
-fn pair_at(s: &[u8], at: usize) -> Pair
-    ensures { result ≡ pair_at s.now at }
+// The two fields that are due, as numbers of a contract and a branch, or of a set and a secret; and the position after them.
+fn pair_at(r: Reader) -> Result<(usize, usize, usize), Refused>
+    ensures { told_pair result ≡ pair_at r.entry.request.now r.entry.at }
 {
-    let g = number_up_to(s, at, LARGEST);
-    match g {
-        Got::Value(a, e) => {
-            let h = number_up_to(s, e, LARGEST);
-            match h {
-                Got::Value(b, f) => Pair::Two(a, b, f),
-                Got::Bad(m, p) => Pair::Bad(m, p),
-            }
-        }
-        Got::Bad(m, p) => Pair::Bad(m, p),
-    }
+    let (a, at) = r.number_up_to(LARGEST)?;
+    let (b, end) = Reader { at, ..r }.number_up_to(LARGEST)?;
+    Ok((a, b, end))
 }
 
 // The same, with the line's end after them.
-fn last_pair(s: &[u8], at: usize) -> Pair
-    ensures { result ≡ last_pair_at s.now at }
+fn last_pair(r: Reader) -> Result<(usize, usize, usize), Refused>
+    ensures { told_pair result ≡ last_pair_at r.entry.request.now r.entry.at }
 {
-    let g = pair_at(s, at);
-    match g {
-        Pair::Two(a, b, e) => {
-            let h = line_end_from(s, e);
-            match h {
-                Got::Value(_, f) => Pair::Two(a, b, f),
-                Got::Bad(m, p) => Pair::Bad(m, p),
-            }
-        }
-        Pair::Bad(m, p) => Pair::Bad(m, p),
-    }
+    let (a, b, at) = pair_at(r)?;
+    let end = Reader { at, ..r }.line_end()?;
+    Ok((a, b, end))
 }
 
-// Each line, after its word.
-fn wait_line(s: &[u8], at: usize) -> Event
-    ensures { result ≡ wait_at s.now at }
+// Lines of an event, after the word: the event, and the position after the line.
+fn wait_line(r: Reader) -> Result<(Event, usize), Refused>
+    ensures { told_event result ≡ wait_at r.entry.request.now r.entry.at }
 {
-    let g = number_between(s, at, 1, LONGEST);
-    match g {
-        Got::Value(d, e) => {
-            let h = line_end_from(s, e);
-            match h {
-                Got::Value(_, f) => Event::Wait(d, f),
-                Got::Bad(m, p) => Event::Bad(m, p),
-            }
-        }
-        Got::Bad(m, p) => Event::Bad(m, p),
-    }
+    let (d, at) = r.number_between(1, LONGEST)?;
+    let end = Reader { at, ..r }.line_end()?;
+    Ok((Event::Wait(d), end))
 }
 
-fn sign_line(s: &[u8], at: usize, people: usize) -> Event
-    ensures { result ≡ sign_at s.now people at }
+fn sign_line(r: Reader, people: usize) -> Result<(Event, usize), Refused>
+    ensures { told_event result ≡ sign_at r.entry.request.now people r.entry.at }
 {
-    let g = number_below(s, at, people);
-    match g {
-        Got::Value(p, e) => {
-            let h = last_pair(s, e);
-            match h {
-                Pair::Two(c, b, f) => Event::Sign(p, c, b, f),
-                Pair::Bad(m, q) => Event::Bad(m, q),
-            }
-        }
-        Got::Bad(m, q) => Event::Bad(m, q),
-    }
-}
-
-fn tell_line(s: &[u8], at: usize) -> Event
-    ensures { result ≡ tell_at s.now at }
-{
-    let g = last_pair(s, at);
-    match g {
-        Pair::Two(i, j, e) => Event::Tell(i, j, e),
-        Pair::Bad(m, p) => Event::Bad(m, p),
-    }
-}
-
-fn fire_line(s: &[u8], at: usize) -> Event
-    ensures { result ≡ fire_at s.now at }
-{
-    let g = last_pair(s, at);
-    match g {
-        Pair::Two(c, b, e) => Event::Fire(c, b, e),
-        Pair::Bad(m, p) => Event::Bad(m, p),
-    }
+    let (p, at) = r.number_below(people)?;
+    let (c, b, end) = last_pair(Reader { at, ..r })?;
+    Ok((Event::Sign(p, c, b), end))
 }
 
 // How many values follow, up to 8, and the position after them.
-fn values(s: &[u8], from: usize) -> Got
-    ensures { result ≡ values_at s.now from }
+#[tactic(auto, using(crate::proofs::Laws::values_on, crate::proofs::Laws::values_bad, crate::proofs::Laws::values_end, crate::proofs::Laws::values_full), unfolding(crate::specs::Events::values_at))]
+fn values(r: Reader) -> Result<(usize, usize), Refused>
+    ensures { told result ≡ values_at r.entry.request.now r.entry.at }
 {
-    let mut at = from;
-    let mut n = 0;
-    while n < VALUES {
-        let g = past_value(s, at);
-        match g {
-            Got::Value(_, e) => {
-                at = e;
-                n += 1;
-            }
-            Got::Bad(m, _) => {
-                if m == MISSING {
-                    return Got::Value(n, at);
-                }
-                return g;
-            }
+    let mut at = r.at;
+    for n in 0..VALUES {
+        match past_value(Reader { at, ..r }) {
+            Ok(end) => at = end,
+            Err(e) if e.refusal == Refusal::Missing => return Ok((n, at)),
+            Err(e) => return Err(e),
         }
     }
-    Got::Value(n, at)
+    Ok((VALUES, at))
 }
 
-fn renew_line(s: &[u8], at: usize) -> Event
-    ensures { result ≡ renew_at s.now at }
+fn renew_line(r: Reader) -> Result<(Event, usize), Refused>
+    ensures { told_event result ≡ renew_at r.entry.request.now r.entry.at }
 {
-    let g = pair_at(s, at);
-    match g {
-        Pair::Two(c, b, e) => {
-            let h = values(s, e);
-            match h {
-                Got::Value(n, f) => {
-                    let l = line_end_from(s, f);
-                    match l {
-                        Got::Value(_, z) => Event::Renew(c, b, e, n, z),
-                        Got::Bad(m, p) => Event::Bad(m, p),
-                    }
-                }
-                Got::Bad(m, p) => Event::Bad(m, p),
-            }
+    let (c, b, from) = pair_at(r)?;
+    let (n, at) = values(Reader { at: from, ..r })?;
+    let end = Reader { at, ..r }.line_end()?;
+    Ok((Event::Renew(c, b, from, n), end))
+}
+
+// The event line that starts where the reader is, and the position after it.
+pub fn event_at(r: Reader, people: usize) -> Result<(Event, usize), Refused>
+    ensures { told_event result ≡ event_at r.entry.request.now people r.entry.at }
+{
+    let (w, at) = r.first()?;
+    let rest = Reader { at, ..r };
+    match w {
+        WAIT => wait_line(rest),
+        SIGN => sign_line(rest, people),
+        TELL => {
+            let (i, j, end) = last_pair(rest)?;
+            Ok((Event::Tell(i, j), end))
         }
-        Pair::Bad(m, p) => Event::Bad(m, p),
-    }
-}
-
-// The event line that starts at `at`.
-pub fn event_at(s: &[u8], at: usize, people: usize) -> Event
-    ensures { result ≡ event_at s.now people at }
-{
-    let g = first_from(s, at);
-    match g {
-        Got::Value(w, e) => match w {
-            WAIT => wait_line(s, e),
-            SIGN => sign_line(s, e, people),
-            TELL => tell_line(s, e),
-            FIRE => fire_line(s, e),
-            RENEW => renew_line(s, e),
-            _ => Event::Bad(3, at),
-        },
-        Got::Bad(m, p) => Event::Bad(m, p),
-    }
-}
-
-// The position after an event's line.
-pub fn next(v: Event) -> Got
-    ensures { result ≡ next_of v }
-{
-    match v {
-        Event::Wait(_, e) => Got::Value(0, e),
-        Event::Sign(_, _, _, e) => Got::Value(0, e),
-        Event::Tell(_, _, e) => Got::Value(0, e),
-        Event::Fire(_, _, e) => Got::Value(0, e),
-        Event::Renew(_, _, _, _, e) => Got::Value(0, e),
-        Event::Bad(m, p) => Got::Bad(m, p),
-    }
-}
-
-// All event lines, from `from` to the request's end.
-pub fn events(s: &[u8], from: usize, people: usize) -> Lines
-    ensures { result ≡ events_at s.now people from }
-{
-    let mut at = from;
-    while at < s.len() {
-        let v = event_at(s, at, people);
-        let g = next(v);
-        match g {
-            Got::Value(_, e) => {
-                at = e;
-            }
-            Got::Bad(m, p) => return Lines::Bad(m, p),
+        FIRE => {
+            let (c, b, end) = last_pair(rest)?;
+            Ok((Event::Fire(c, b), end))
         }
+        RENEW => renew_line(rest),
+        _ => Err(r.refused(Refusal::NotDue)),
     }
-    Lines::Good
+}
+
+// All event lines, from where the reader is to the request's end.
+pub fn events(r: Reader, people: usize) -> Result<(), Refused>
+    ensures { told_lines result ≡ events_at r.entry.request.now people r.entry.at }
+{
+    // A line's end says where the next one starts, so nothing is counted.
+    let mut at = r.at;
+    while at < r.request.len() {
+        let (_, next) = event_at(Reader { at, ..r }, people)?;
+        at = next;
+    }
+    Ok(())
 }

@@ -6,13 +6,13 @@ use mathlib.Core.Bool.{Bool, true, false, cond}
 use mathlib.Core.List.{List, [], ◌∷◌, ◌++◌, map, append-nil, Memᴰ}
 use lib.ListN.{length, get_or, length-append}
 use lib.Dec.{eqb, ltb}
-use borrow.Author.Tests.{ne_eqb, lt-ltb, ltb-true, eqb-true, eqb-false}
-use Rattle.bitml.specs.Lists.{◌&◌, keep, below, up_from, All}
+use borrow.Author.Tests.{lt-ltb, ltb-true, eqb-true, eqb-false}
+use Rattle.bitml.specs.Lists.{◌&◌, keep, below, up_from}
 use Rattle.bitml.specs.Rows.{Row, rank_of}
 use Rattle.bitml.specs.Rule as rule
 use Rattle.bitml.specs.Rule.{make, stuck, rows, row_for, reached, rank_at, verdict, liquid, frozen}
-use Rattle.bitml.proofs.Lists.{all_head, all_of, keep_imp, up_mem, map_cong}
-use Rattle.bitml.proofs.Counting.{keep_cong, keep_append, up_split, up_one, up-end}
+use Rattle.bitml.proofs.Lists.{all_of, keep_imp, up_mem, map_cong}
+use Rattle.bitml.proofs.Counting.{keep_cong, keep_append, up_split}
 use Rattle.tables.specs.Entries.{Entries}
 use Rattle.tables.specs.SheetOf.{sheet_of}
 use Rattle.tables.proofs.SheetOf.{nodes-are}
@@ -23,39 +23,37 @@ use Rattle.reached.specs.Marks.{MarksReached}
 use Rattle.reached.proofs.Reaching.{first-reached, reached-small}
 use Rattle.exits.specs.declared.Verdict.TheVariants.{Liquid, Frozen}
 use Rattle.exits.specs.Costs.{Ranks}
-use Rattle.exits.specs.Made.{answer_of, buffer_of, stuck_by, first_or, marked_by, row_by, rows_by}
+use Rattle.exits.specs.Made.{answer_of, buffer_of, stuck_by, marked_by, row_by, rows_by}
+use Rattle.std.specs.Prelude.{None, Some, not, ◌&&◌}
+use Rattle.std.specs.List.{find}
 
--- ---- counting up
+-- ---- the first that a test finds is the first that it keeps
 
 module _ (T : ℕ → Bool) where
-  pub keep_skip : (i n : ℕ) → i < n → T i ≡ false → keep T (up_from i (n - i)) ≡ keep T (up_from (i + 1) (n - (i + 1)))
-  keep_skip i n h e = ap (keep T) (up_one i n h) ∙ rw e
-
-  pub keep-take : (i n : ℕ) → i < n → T i ≡ true → keep T (up_from i (n - i)) ≡ i ∷ keep T (up_from (i + 1) (n - (i + 1)))
-  keep-take i n h e = ap (keep T) (up_one i n h) ∙ rw e
-
-  pub keep-end : (i n : ℕ) → n ≤ i → keep T (up_from i (n - i)) ≡ []
-  keep-end i n h = ap (keep T) (up-end i n h)
-
-  pub keep_all : (n : ℕ) → keep T (up_from 0 (n - 0)) ≡ keep T (below n)
-  keep_all n = ap (λ k. keep T (up_from 0 k)) (let z : n - 0 ≡ n = omega arith in z)
-
-module _ (M R : List ℕ) (n : ℕ) where
-  pub stuck-none : get_or M n 0 ≡ 0 → stuck_by M R n ≡ false
-  unfolding stuck_by ◌&◌
-  stuck-none e = rw e
-
-  pub stuck-here : (get_or M n 0 ≡ 0 → ⊥) → get_or R n 0 ≡ 0 → stuck_by M R n ≡ true
-  unfolding stuck_by ◌&◌
-  stuck-here f e = rw (e, lt-ltb 0 (get_or M n 0) (omega arith))
-
-  pub stuck_ranked : (get_or R n 0 ≡ 0 → ⊥) → stuck_by M R n ≡ false
-  unfolding stuck_by ◌&◌
-  stuck_ranked f = rw (ne_eqb (get_or R n 0) 0 f) (go (ltb 0 (get_or M n 0)))
+  pub found : (xs : List ℕ) (m : ℕ) → Some m ≡ find T xs → (ms : List ℕ) × (keep T xs ≡ m ∷ ms)
+  found [] m e = absurd (cc)
+  found (x ∷ xs) m e = go (T x) (found xs m) e
     where
-      go : (b : Bool) → (b & false) ≡ false
-      go true = refl
-      go false = refl
+      go : (b : Bool) → (Some m ≡ find T xs → (ms : List ℕ) × (keep T xs ≡ m ∷ ms)) → Some m ≡ cond b (Some x) (find T xs)
+          → (ms : List ℕ) × (cond b (x ∷ keep T xs) (keep T xs) ≡ m ∷ ms)
+      go true f e = let z : x ≡ m = cc in (keep T xs, ap (λ a. a ∷ keep T xs) z)
+      go false f e = f e
+
+  pub found-none : (xs : List ℕ) → None ≡ find T xs → keep T xs ≡ []
+  found-none [] e = refl
+  found-none (x ∷ xs) e = go (T x) (found-none xs) e
+    where
+      go : (b : Bool) → (None ≡ find T xs → keep T xs ≡ []) → None ≡ cond b (Some x) (find T xs) → cond b (x ∷ keep T xs) (keep T xs) ≡ []
+      go true f e = absurd (cc)
+      go false f e = f e
+
+pub stuck-test : (M R : List ℕ) (n : ℕ) → (not (eqb (get_or M n 0) 0) && eqb (get_or R n 0) 0) ≡ stuck_by M R n
+unfolding stuck_by ◌&◌
+stuck-test M R n = go (eqb (get_or M n 0) 0) refl
+  where
+    go : (b : Bool) → eqb (get_or M n 0) 0 ≡ b → (not b && eqb (get_or R n 0) 0) ≡ (ltb 0 (get_or M n 0) & eqb (get_or R n 0) 0)
+    go true e = rw (eqb-true (get_or M n 0) 0 e)
+    go false e = let f = eqb-false (get_or M n 0) 0 e in rw (lt-ltb 0 (get_or M n 0) (omega arith))
 
 -- ---- the rows of marked nodes
 
@@ -90,28 +88,22 @@ pub put-none : (M R B ys : List ℕ) → ys ≡ filled (length ys) [] → Put M 
 unfolding rows_by
 put-none M R B ys e = record { few = omega arith; long = refl; count = refl; is = e }
 
-pub put_step : (M R B xs ys : List ℕ) (L i j j' : ℕ) → Put M R B xs L i j → row_wide * j + row_wide ≤ L
-    → j' ≡ cond (eqb (get_or M i 0) 0) j (j + 1) → ys ≡ cond (eqb (get_or M i 0) 0) xs (stored xs j (row i (get_or B i 0) (get_or R i 0))) → Put M R B ys L (i + 1) j'
-unfolding row_by
-put_step M R B xs ys L i j j' r h = go (eqb (get_or M i 0) 0) refl
-  where
-    go : (b : Bool) → eqb (get_or M i 0) 0 ≡ b → j' ≡ cond b j (j + 1) → ys ≡ cond b xs (stored xs j (row i (get_or B i 0) (get_or R i 0))) → Put M R B ys L (i + 1) j'
-    go true e f g =
-        let k = rows_skip M R B i (eqb-true _ _ e) in
-        record {
-          few = omega (arith, r.few);
-          long = ap (λ x. length x) g ∙ r.long;
-          count = f ∙ r.count ∙ ap (λ x. length x) (sym k);
-          is = g ∙ r.is ∙ ap (filled L) (sym k);
-        }
-    go false e f g =
-        let k = rows_take M R B i (eqb-false _ _ e) in
-        record {
-          few = omega (arith, r.few);
-          long = ap (λ x. length x) g ∙ stored-length xs j _ ∙ r.long;
-          count = f ∙ (let z : j + 1 ≡ length (rows_by M R B i) + 1 = omega (arith, r.count) in z) ∙ sym (length-append (rows_by M R B i) (row_by R B i ∷ [])) ∙ ap (λ x. length x) (sym k);
-          is = g ∙ ap₂ (λ x m. stored x m (row_by R B i)) r.is r.count ∙ filled-stored L (rows_by M R B i) (row_by R B i) (omega (arith, r.count)) ∙ ap (filled L) (sym k);
-        }
+module _ (M R B xs : List ℕ) (L i j : ℕ) (r : Put M R B xs L i j) where
+  pub put_skip : get_or M i 0 ≡ 0 → Put M R B xs L (i + 1) j
+  put_skip e =
+      let k = rows_skip M R B i e in
+      record { few = omega (arith, r.few); long = r.long; count = r.count ∙ ap (λ x. length x) (sym k); is = r.is ∙ ap (filled L) (sym k) }
+
+  pub put_take : (get_or M i 0 ≡ 0 → ⊥) → row_wide * j + row_wide ≤ L → Put M R B (stored xs j (row i (get_or B i 0) (get_or R i 0))) L (i + 1) (j + 1)
+  unfolding row_by
+  put_take f h =
+      let k = rows_take M R B i f in
+      record {
+        few = omega (arith, r.few);
+        long = stored-length xs j _ ∙ r.long;
+        count = (let z : j + 1 ≡ length (rows_by M R B i) + 1 = omega (arith, r.count) in z) ∙ sym (length-append (rows_by M R B i) (row_by R B i ∷ [])) ∙ ap (λ x. length x) (sym k);
+        is = ap₂ (λ x m. stored x m (row_by R B i)) r.is r.count ∙ filled-stored L (rows_by M R B i) (row_by R B i) (omega (arith, r.count)) ∙ ap (filled L) (sym k);
+      }
 
 -- ---- what is made
 
@@ -143,23 +135,13 @@ module _ (K : ℕ) (E : Entries) (p : ℕ) (ok : Promises K E) (M R B : List ℕ
       ∙ ap (map (row_for (sheet_of K E) p)) (keep_cong (marked_by M) (reached (sheet_of K E)) (below (length E.nodes)) (λ m h. marked-is m)
       ∙ ap (λ k. keep (reached (sheet_of K E)) (below k)) (sym (nodes-are K E)))
 
-  pub made-frozen : (k : ℕ) → k ≡ first_or (length E.nodes) (keep (stuck_by M R) (below (length E.nodes))) → k < length E.nodes → make (sheet_of K E) p ≡ frozen k
+  pub made-frozen : (k : ℕ) → Some k ≡ find (stuck_by M R) (below (length E.nodes)) → make (sheet_of K E) p ≡ frozen k
   unfolding make
-  made-frozen k e h = go (keep (stuck_by M R) (below (length E.nodes))) refl
-    where
-      go : (ms : List ℕ) → keep (stuck_by M R) (below (length E.nodes)) ≡ ms → verdict (stuck (sheet_of K E) p) (rows (sheet_of K E) p) ≡ frozen k
-      go [] q = absurd (let z : k ≡ length E.nodes = e ∙ ap (first_or (length E.nodes)) q in omega arith)
-      go (m ∷ ms) q = ap (λ xs. verdict xs (rows (sheet_of K E) p)) (sym stuck-is ∙ q) ∙ ap frozen (sym (e ∙ ap (first_or (length E.nodes)) q))
+  made-frozen k e = ap (λ xs. verdict xs (rows (sheet_of K E) p)) (sym stuck-is ∙ (found (stuck_by M R) (below (length E.nodes)) k e).1)
 
-  pub made-liquid : (k : ℕ) → k ≡ first_or (length E.nodes) (keep (stuck_by M R) (below (length E.nodes))) → length E.nodes ≤ k → make (sheet_of K E) p ≡ liquid (rows_by M R B (length E.nodes))
+  pub made-liquid : None ≡ find (stuck_by M R) (below (length E.nodes)) → make (sheet_of K E) p ≡ liquid (rows_by M R B (length E.nodes))
   unfolding make
-  made-liquid k e h = go (keep (stuck_by M R) (below (length E.nodes))) refl
-    where
-      go : (ms : List ℕ) → keep (stuck_by M R) (below (length E.nodes)) ≡ ms → verdict (stuck (sheet_of K E) p) (rows (sheet_of K E) p) ≡ liquid (rows_by M R B (length E.nodes))
-      go [] q = ap₂ verdict (sym stuck-is ∙ q) (sym rows_are)
-      go (m ∷ ms) q = absurd (
-          let a = all_head (subst (All (λ m. (0 ≤ m) × (m < 0 + length E.nodes))) q (keep_imp (stuck_by M R) (below (length E.nodes)) (up_mem 0 (length E.nodes)))) in
-          let z : k ≡ m = e ∙ ap (first_or (length E.nodes)) q in omega (arith, a))
+  made-liquid e = ap₂ verdict (sym stuck-is ∙ found-none (stuck_by M R) (below (length E.nodes)) e) (sym rows_are)
 
   -- node 0 is reached, so its row is the first
   pub first-rank : rank_of (rows_by M R B (length E.nodes)) 0 ≡ get_or R 0 0

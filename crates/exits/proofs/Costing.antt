@@ -3,49 +3,62 @@ use mathlib.Core.Path.{◌≡◌, refl, sym, ap, ap₂, ◌∙◌, subst}
 use Prim.Native.Nat.{ℕ, suc, ◌+◌, ◌-◌, ◌≤◌, ◌<◌}
 use native.Mathlib.Omega.{arith}
 use mathlib.Core.Bool.{Bool, true, false, cond}
-use mathlib.Core.List.{List, [], ◌∷◌, map}
-use lib.ListN.{get_or}
-use lib.Dec.{ltb}
-use borrow.Author.Tests.{lt-ltb, ne_eqb, le-leb, lt-leb}
-use Rattle.bitml.specs.Lists.{◌&◌, ◌or◌, sum, every, up_from}
+use mathlib.Core.List.{List, [], ◌∷◌}
+use lib.ListN.{length, get_or, drop, drop_of_length-le}
+use lib.Dec.{eqb, ltb, leb}
+use Rattle.std.specs.Prelude.{None, Some}
+use Rattle.std.proofs.lemmas.List.{drop_more}
+use borrow.Author.Tests.{eqb-true, eqb-false, lt-ltb, ne_eqb, le-leb, lt-leb}
+use Rattle.bitml.specs.Lists.{◌&◌, ◌or◌, sum, every}
 use Rattle.bitml.specs.Sheet.{parts}
 use Rattle.bitml.specs.Runs.{own}
 use Rattle.bitml.specs.Rule as rule
 use Rattle.bitml.specs.Rule.{cost_of, better, choose}
 use Rattle.bitml.proofs.Lists.{all_head}
-use Rattle.bitml.proofs.Counting.{up_one, up-end}
 use Rattle.tables.specs.Entries.{Entries, most_nodes}
-use Rattle.tables.specs.SheetOf.{sheet_of, branch_of, branch_entry_at, branch_number, part_numbers, part_number, part_count}
-use Rattle.tables.proofs.SheetOf.{all_in, parts_are, parts_none, parts-split, parts-reveal}
+use Rattle.tables.specs.SheetOf.{sheet_of, branch_of, branch_entry_at, branch_numbers, branch_number, branch_count, part_numbers}
+use Rattle.tables.proofs.SheetOf.{all_in, parts_none, parts-split, parts-reveal}
 use Rattle.owning.proofs.Owning.{own_below}
-use Rattle.exits.specs.Costs.{ranks_at, served, branch_cost, Ranked, chosen_from}
+use Rattle.exits.specs.Costs.{some_rank, ranks_at, served, branch_cost, Ranked, chosen_from}
 
-module _ (E : Entries) (R : List ℕ) (b i : ℕ) where
-  pub ranked_at : Ranked R (part_numbers E b) → i < part_count E b → (part_number E b i < most_nodes) × (get_or R (part_number E b i) 0 ≤ most_nodes)
-  unfolding Ranked part_count part_number
-  ranked_at h l = all_in (part_numbers E b) i h l
+-- ---- a rank, or none
 
-  abbrev pub rest : ℕ → List ℕ
-  rest i = ranks_at R (map (part_number E b) (up_from i (part_count E b - i)))
+pub some-is : (k : ℕ) → 0 < k → Some k ≡ some_rank k
+some-is k h = rw (ne_eqb k 0 (λ z. omega arith))
 
-  pub rest_all : rest 0 ≡ ranks_at R (part_numbers E b)
-  rest_all = ap (λ k. ranks_at R (map (part_number E b) (up_from 0 k))) (let z : part_count E b - 0 ≡ part_count E b = omega arith in z) ∙ ap (ranks_at R) (sym (parts_are E b))
+pub is-some : (k r : ℕ) → Some r ≡ some_rank k → (k ≡ r) × (0 < r)
+is-some k r = go (eqb k 0) refl
+  where
+    go : (b : Bool) → eqb k 0 ≡ b → Some r ≡ cond b None (Some k) → (k ≡ r) × (0 < r)
+    go true q e = absurd (cc)
+    go false q e = let z : k ≡ r = cc in (z, omega (arith, eqb-false k 0 q))
 
-  rest_more : i < part_count E b → rest i ≡ get_or R (part_number E b i) 0 ∷ rest (i + 1)
-  unfolding ranks_at
-  rest_more h = ap (λ xs. ranks_at R (map (part_number E b) xs)) (up_one i (part_count E b) h)
+pub is-none : (k : ℕ) → None ≡ some_rank k → k ≡ 0
+is-none k = go (eqb k 0) refl
+  where
+    go : (b : Bool) → eqb k 0 ≡ b → None ≡ cond b None (Some k) → k ≡ 0
+    go true q e = eqb-true k 0 q
+    go false q e = absurd (cc)
 
-  pub served-bad : (acc : ℕ) → i < part_count E b → get_or R (part_number E b i) 0 ≡ 0 → served acc (rest i) ≡ 0
-  unfolding served
-  served-bad acc h e = ap (served acc) (rest_more h) ∙ rw e
+-- ---- the ranks of the contracts xs from number i on
 
-  pub served_good : (acc : ℕ) → i < part_count E b → (get_or R (part_number E b i) 0 ≡ 0 → ⊥) → served acc (rest i) ≡ served (acc + get_or R (part_number E b i) 0) (rest (i + 1))
-  unfolding served
-  served_good acc h f = ap (served acc) (rest_more h) ∙ rw (lt-ltb 0 (get_or R (part_number E b i) 0) (let g : get_or R (part_number E b i) 0 ≡ 0 → ⊥ = f in omega arith))
+module _ (R xs : List ℕ) (i : ℕ) where
+  pub ranked_at : Ranked R xs → i < length xs → (get_or xs i 0 < most_nodes) × (get_or R (get_or xs i 0) 0 ≤ most_nodes)
+  unfolding Ranked
+  ranked_at h l = all_in xs i h l
 
-  pub served-end : (acc : ℕ) → part_count E b ≤ i → served acc (rest i) ≡ acc
-  unfolding served ranks_at
-  served-end acc h = ap (λ xs. served acc (ranks_at R (map (part_number E b) xs))) (up-end i (part_count E b) h)
+  module _ (acc : ℕ) where
+    pub served-none : i < length xs → get_or R (get_or xs i 0) 0 ≡ 0 → served acc (ranks_at R (drop i xs)) ≡ 0
+    unfolding served ranks_at
+    served-none h e = ap (λ ms. served acc (ranks_at R ms)) (drop_more xs i 0 h) ∙ rw e
+
+    pub served-some : (k : ℕ) → i < length xs → get_or R (get_or xs i 0) 0 ≡ k → 0 < k → served acc (ranks_at R (drop i xs)) ≡ served (acc + k) (ranks_at R (drop (i + 1) xs))
+    unfolding served ranks_at
+    served-some k h e z = ap (λ ms. served acc (ranks_at R ms)) (drop_more xs i 0 h) ∙ rw (e, lt-ltb 0 k z)
+
+    pub served-end : length xs ≤ i → served acc (ranks_at R (drop i xs)) ≡ acc
+    unfolding served ranks_at
+    served-end h = ap (λ ms. served acc (ranks_at R ms)) (drop_of_length-le xs h)
 
 served-is : (acc : ℕ) (ks : List ℕ) → served acc ks ≡ cond (every (ltb 0) ks) (acc + sum ks) 0
 unfolding served ◌&◌
@@ -66,35 +79,41 @@ module _ (K : ℕ) (E : Entries) (p n b : ℕ) (R : List ℕ) where
   unfolding branch_cost cost_of ◌&◌
   cost-other e = rw e
 
-  cost-own : (ms : List ℕ) → own (sheet_of K E) p n (branch_of E b) ≡ true → parts (branch_of E b).action ≡ ms → branch_cost K E p n b R ≡ served 1 (ranks_at R ms)
-  unfolding branch_cost
-  cost-own ms e q = ap₂ (λ o ms. cost_of o (ranks_at R ms)) e q ∙ cost-served (ranks_at R ms)
+  module _ (e : true ≡ own (sheet_of K E) p n (branch_of E b)) where
+    cost-own : (ms : List ℕ) → parts (branch_of E b).action ≡ ms → branch_cost K E p n b R ≡ served 1 (ranks_at R ms)
+    unfolding branch_cost
+    cost-own ms q = ap₂ (λ o ms. cost_of o (ranks_at R ms)) (sym e) q ∙ cost-served (ranks_at R ms)
 
-  pub cost-none : own (sheet_of K E) p n (branch_of E b) ≡ true → (branch_entry_at E b).kind ≡ 0 → branch_cost K E p n b R ≡ 1
-  unfolding served ranks_at
-  cost-none e k = cost-own [] e (parts_none E b k)
+    pub cost-none : 0 ≡ (branch_entry_at E b).kind → branch_cost K E p n b R ≡ 1
+    unfolding served ranks_at
+    cost-none k = cost-own [] (parts_none E b (sym k))
 
-  pub cost-split : own (sheet_of K E) p n (branch_of E b) ≡ true → (branch_entry_at E b).kind ≡ 1 → branch_cost K E p n b R ≡ served 1 (ranks_at R (part_numbers E b))
-  cost-split e k = cost-own _ e (parts-split E b k)
+    pub cost-split : 1 ≡ (branch_entry_at E b).kind → branch_cost K E p n b R ≡ served 1 (ranks_at R (part_numbers E b))
+    cost-split k = cost-own _ (parts-split E b (sym k))
 
-  pub cost-reveal : own (sheet_of K E) p n (branch_of E b) ≡ true → (branch_entry_at E b).kind ≡ 2 → branch_cost K E p n b R ≡ served 1 (get_or R (branch_entry_at E b).arg 0 ∷ [])
-  unfolding ranks_at
-  cost-reveal e k = cost-own ((branch_entry_at E b).arg ∷ []) e (parts-reveal E b k)
+    module _ (k : 2 ≡ (branch_entry_at E b).kind) (r : ℕ) (q : get_or R (branch_entry_at E b).arg 0 ≡ r) where
+      cost-reveal : branch_cost K E p n b R ≡ served 1 (r ∷ [])
+      unfolding ranks_at
+      cost-reveal = cost-own ((branch_entry_at E b).arg ∷ []) (parts-reveal E b (sym k)) ∙ ap (λ r. served 1 (r ∷ [])) q
 
-  pub ranked_reveal : (branch_entry_at E b).kind ≡ 2 → Ranked R (parts (branch_of E b).action) → ((branch_entry_at E b).arg < most_nodes) × (get_or R (branch_entry_at E b).arg 0 ≤ most_nodes)
+      pub cost-stuck : r ≡ 0 → branch_cost K E p n b R ≡ 0
+      unfolding served
+      cost-stuck z = cost-reveal ∙ rw z
+
+      pub cost-step : 0 < r → branch_cost K E p n b R ≡ r + 1
+      unfolding served
+      cost-step h = cost-reveal ∙ rw (lt-ltb 0 r h) (omega arith)
+
+    -- no renewal is own
+    pub cost-renewal : 3 ≡ (branch_entry_at E b).kind → branch_cost K E p n b R ≡ 0
+    cost-renewal k = absurd (omega (arith, own_below K E p n b (sym e)))
+
+  pub ranked-reveal : 2 ≡ (branch_entry_at E b).kind → Ranked R (parts (branch_of E b).action) → ((branch_entry_at E b).arg < most_nodes) × (get_or R (branch_entry_at E b).arg 0 ≤ most_nodes)
   unfolding Ranked
-  ranked_reveal k h = all_head (rw (parts-reveal E b k) at h)
+  ranked-reveal k h = all_head (rw (parts-reveal E b (sym k)) at h)
 
-  pub ranked_split : (branch_entry_at E b).kind ≡ 1 → Ranked R (parts (branch_of E b).action) → Ranked R (part_numbers E b)
-  ranked_split k h = subst (Ranked R) (parts-split E b k) h
-
-pub served-one : (k : ℕ) → (k ≡ 0 → ⊥) → served 1 (k ∷ []) ≡ k + 1
-unfolding served
-served-one k f = rw (lt-ltb 0 k (omega arith)) (omega arith)
-
-pub served-not : (k : ℕ) → k ≡ 0 → served 1 (k ∷ []) ≡ 0
-unfolding served
-served-not k e = rw e
+  pub ranked-split : 1 ≡ (branch_entry_at E b).kind → Ranked R (parts (branch_of E b).action) → Ranked R (part_numbers E b)
+  ranked-split k h = subst (Ranked R) (parts-split E b (sym k)) h
 
 -- ---- choices
 
@@ -115,6 +134,24 @@ module _ (k b : ℕ) (c : rule.Choice) where
   unfolding better ◌&◌ ◌or◌
   better-more e h = rw (lt-ltb 0 k (omega arith), ne_eqb c.rank 0 e, lt-leb _ _ h)
 
+pub better-some : (k b : ℕ) (c : rule.Choice) → 0 < k → 0 < (better k b c).rank
+unfolding better ◌&◌ ◌or◌
+better-some k b c h = rw (lt-ltb 0 k h) (go (eqb c.rank 0) refl (leb k c.rank))
+  where
+    go : (x : Bool) → eqb c.rank 0 ≡ x → (y : Bool) → 0 < (cond (x or y) (record { branch = b; rank = k }) c).rank
+    go true e y = h
+    go false e true = h
+    go false e false = omega (arith, eqb-false c.rank 0 e)
+
+module _ (E : Entries) (n : ℕ) (bs : List ℕ) (e : bs ≡ branch_numbers E n) where
+  pub number-count : length bs ≡ branch_count E n
+  unfolding branch_count
+  number-count = ap (λ xs. length xs) e
+
+  pub number-at : (i : ℕ) → get_or bs i 0 ≡ branch_number E n i
+  unfolding branch_number
+  number-at i = ap (λ xs. get_or xs i 0) e
+
 module _ (K : ℕ) (E : Entries) (p n : ℕ) (R : List ℕ) where
   pub chosen_none : (k : ℕ) → chosen_from K E p n R k (k - k) ≡ record { branch = 0; rank = 0 }
   unfolding chosen_from choose
@@ -126,9 +163,3 @@ module _ (K : ℕ) (E : Entries) (p n : ℕ) (R : List ℕ) where
       let z : k - (i - 1) ≡ suc (k - i) = omega arith in
       let w : suc (i - 1) ≡ i = omega arith in
       rw (z, w)
-
-  pub chosen_all : (i k : ℕ) → i ≡ 0 → chosen_from K E p n R i (k - i) ≡ chosen_from K E p n R 0 k
-  chosen_all i k e = ap₂ (chosen_from K E p n R) e (let z : k - i ≡ k = omega arith in z)
-
-pub kind_two : (K : ℕ) (E : Entries) (p n b : ℕ) {k : ℕ} → own (sheet_of K E) p n (branch_of E b) ≡ true → k ≡ (branch_entry_at E b).kind → (k ≡ 0 → ⊥) → (k ≡ 1 → ⊥) → (branch_entry_at E b).kind ≡ 2
-kind_two K E p n b o e f g = let h = own_below K E p n b o in omega arith

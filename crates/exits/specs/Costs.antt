@@ -1,5 +1,5 @@
 -- What a branch costs by an array of ranks, and what the work arrays hold: ranks, chosen branches. Assumes nothing.
-use Rattle.std.specs.Prelude.{◌≡◌, ℕ, ◌+◌, ◌≤◌, ◌<◌, cond, List, [], ◌∷◌, map, length, get_or, ltb}
+use Rattle.std.specs.Prelude.{◌≡◌, ℕ, ◌+◌, ◌≤◌, ◌<◌, cond, List, [], ◌∷◌, map, length, get_or, eqb, ltb, Option, None, Some}
 use Rattle.bitml.specs.Lists.{All, up_from}
 use Rattle.bitml.specs.Sheet.{parts}
 use Rattle.bitml.specs.Runs.{own}
@@ -8,6 +8,13 @@ use Rattle.bitml.specs.Rule.{rank_at, choice_at}
 use Rattle.tables.specs.Entries.{Entries, most_nodes}
 use Rattle.tables.specs.SheetOf.{sheet_of, branch_of, branch_number}
 use Rattle.exits.specs.declared.Choice.{Choice}
+
+-- A rank, where 0 stands for none; the rank of node m by the array R
+abbrev pub some_rank : ℕ → Option ℕ
+some_rank k = cond (eqb k 0) None (Some k)
+
+abbrev pub rank_by : List ℕ → ℕ → Option ℕ
+rank_by R m = some_rank (get_or R m 0)
 
 -- The ranks of contracts
 unfoldable pub ranks_at : List ℕ → List ℕ → List ℕ
@@ -26,8 +33,9 @@ branch_cost K E p n b R = rule.cost_of (own (sheet_of K E) p n (branch_of E b)) 
 unfoldable pub Ranked : List ℕ → List ℕ → Type 0
 Ranked R ms = All (λ m. (m < most_nodes) × (get_or R m 0 ≤ most_nodes)) ms
 
-abbrev pub as_choice : Choice → rule.Choice
-as_choice c = record { branch = c.branch; rank = c.rank }
+abbrev pub as_choice : Option Choice → rule.Choice
+as_choice None = rule.no_choice
+as_choice (Some c) = record { branch = c.branch; rank = c.rank }
 
 -- The choice among the k branches of n from number i on
 unfoldable pub chosen_from : ℕ → Entries → ℕ → ℕ → List ℕ → ℕ → ℕ → rule.Choice

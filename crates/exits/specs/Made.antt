@@ -1,5 +1,5 @@
 -- The answer and the row buffer, by what the published rule makes. Assumes nothing.
-use Rattle.std.specs.Prelude.{ℕ, Bool, List, [], ◌∷◌, map, length, get_or, eqb, ltb}
+use Rattle.std.specs.Prelude.{ℕ, Bool, List, [], map, length, get_or, eqb, ltb}
 use Rattle.bitml.specs.Lists.{◌&◌, keep, below}
 use Rattle.bitml.specs.Rows.{Row, rank_of}
 use Rattle.bitml.specs.Rule as rule
@@ -22,10 +22,6 @@ buffer_of n (frozen m) = filled n []
 
 unfoldable pub stuck_by : List ℕ → List ℕ → ℕ → Bool
 stuck_by M R n = ltb 0 (get_or M n 0) & eqb (get_or R n 0) 0
-
-abbrev pub first_or : ℕ → List ℕ → ℕ
-first_or n [] = n
-first_or n (m ∷ ms) = m
 
 unfoldable pub marked_by : List ℕ → ℕ → Bool
 marked_by M n = ltb 0 (get_or M n 0)

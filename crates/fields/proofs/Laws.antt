@@ -9,10 +9,10 @@ use native.Mathlib.Omega.{arith}
 use lib.ListN.{length, get_or, take, drop, drop_of_length-le, length-drop, length-take}
 use lib.Seq.{drop-cons}
 use lib.Dec.{ltb, leb, eqb, lit<}
-use borrow.Author.Tests.{eq-eqb, ne_eqb, lt-ltb, leb-true, ltb-true, eqb-true}
+use borrow.Author.Tests.{eq-eqb, ne_eqb, lt-ltb, le-ltb, leb-true, ltb-true, eqb-true}
 use Rattle.fields.specs.Field.{comma, lf, is_sep, field_len, number_of, any_size, any_at, number_at, after_comma, up_to, text_at, end_at, packed, packed_of, word_from, word_at, when_read, Num, Is, Not}
-use Rattle.fields.specs.declared.Got.{Got}
-use Rattle.fields.specs.declared.Got.TheVariants.{Value, Bad}
+use Rattle.fields.specs.Field.{Got}
+use Rattle.fields.specs.Field.{Value, Bad}
 
 module _ (s : List ℕ) (i : ℕ) where
   pub field_len-end : length s ≤ i → field_len (drop i s) ≡ 0
@@ -63,6 +63,11 @@ field_len-le (b ∷ r) = pick (is_sep b) (field_len-le r)
 pub end-within : (s : List ℕ) (p : ℕ) → p ≤ length s → p + field_len (drop p s) ≤ length s
 end-within s p h = omega (arith, field_len-le (drop p s), length-drop p s)
 
+-- a word of 1 to 7 letters that starts with no zero byte
+pub packed_some : (t : List ℕ) → eqb (length t) 0 ≡ false → length t ≤ 7 → 1 ≤ get_or t 0 0 → packed_of t ≡ packed 0 t
+unfolding packed_of
+packed_some t e h k = rw (e, le-ltb _ _ h, ne_eqb (get_or t 0 0) 0 (λ z. omega arith))
+
 -- a field of one byte, as a word
 one_byte : (b : ℕ) (r : List ℕ) → packed_of (take 1 (b ∷ r)) ≡ b
 unfolding packed_of packed
@@ -91,6 +96,35 @@ four_long s p h e a b c d =
     ∙ ap suc (field_len-on s (p + 2) (p + 3) (omega arith) (omega arith) c
     ∙ ap suc (field_len-on s (p + 3) (p + 4) (omega arith) (omega arith) d
     ∙ ap suc (field_len-comma s (p + 4) h e))))
+
+-- ---- a comma that was looked for
+
+pub comma_there : (s : List ℕ) (at p : ℕ) → Value 0 p ≡ after_comma s at (Value 0 (at + 1)) → (at < length s) × (get_or s at 0 ≡ comma) × (p ≡ at + 1)
+comma_there s at p h = go (ltb at (length s)) (eqb (get_or s at 0) comma) refl refl h
+  where
+    go : (a b : Bool) → ltb at (length s) ≡ a → eqb (get_or s at 0) comma ≡ b → Value 0 p ≡ cond (a && b) (Value 0 (at + 1)) (Bad 2 at) → (at < length s) × (get_or s at 0 ≡ comma) × (p ≡ at + 1)
+    go true true i j k = (ltb-true at (length s) i, eqb-true (get_or s at 0) comma j, cc)
+    go true false i j k = let z : ◌≡◌ {A = ℕ} 0 1 = cc in absurd (omega arith)
+    go false b i j k = let z : ◌≡◌ {A = ℕ} 0 1 = cc in absurd (omega arith)
+
+comma_missing : (s : List ℕ) (at n p : ℕ) (g : Got) → Bad n p ≡ after_comma s at (Value 0 (at + 1)) → Bad n p ≡ after_comma s at g
+comma_missing s at n p g h = go (ltb at (length s) && eqb (get_or s at 0) comma) h
+  where
+    go : (a : Bool) → Bad n p ≡ cond a (Value 0 (at + 1)) (Bad 2 at) → Bad n p ≡ cond a g (Bad 2 at)
+    go true k = let z : ◌≡◌ {A = ℕ} 0 1 = cc in absurd (omega arith)
+    go false k = k
+
+pub number_missing : (s : List ℕ) (at n p : ℕ) → Bad n p ≡ after_comma s at (Value 0 (at + 1)) → Bad n p ≡ any_at s at
+unfolding any_at
+number_missing s at n p h = comma_missing s at n p (any_size at (end_at s (at + 1)) (number_of (text_at s (at + 1)))) h
+
+pub word_missing : (s : List ℕ) (at n p : ℕ) → Bad n p ≡ after_comma s at (Value 0 (at + 1)) → Bad n p ≡ word_at s at
+unfolding word_at
+word_missing s at n p h = comma_missing s at n p (word_from s (at + 1)) h
+
+pub word_after : (s : List ℕ) (at p : ℕ) → Value 0 p ≡ after_comma s at (Value 0 (at + 1)) → word_from s p ≡ word_at s at
+unfolding word_at
+word_after s at p h = let c = comma_there s at p h in rw (lt-ltb _ _ c.0, eq-eqb _ _ c.1) (ap (word_from s) c.2)
 
 -- what is left to say of a number after its comma
 pub number_by : (s : List ℕ) (at max : ℕ) {n : Num} → at < length s → get_or s at 0 ≡ comma → number_of (text_at s (at + 1)) ≡ n → number_at s at max ≡ up_to max at (end_at s (at + 1)) n

@@ -9,8 +9,8 @@ use lib.ListN.{length, get_or, drop}
 use borrow.Author.Tests.{ltb-true, ltb-false}
 use Rattle.fields.proofs.Laws.{end-within, number-max, number-end}
 use Rattle.fields.specs.Field.{lf, field_len, when_read, any_number, number_at, below_at, between_at, word_from, end_at, first_at, line_end_at}
-use Rattle.fields.specs.declared.Got.{Got}
-use Rattle.fields.specs.declared.Got.TheVariants.{Value, Bad}
+use Rattle.fields.specs.Field.{Got}
+use Rattle.fields.specs.Field.{Value, Bad}
 
 -- what holds of a refusal, and of what follows a field, holds of both
 pub when_read-cases : {A : Type 0} (Q : A → Type 0) (bad : ℕ → ℕ → A) (g : Got) (go : ℕ → ℕ → A)

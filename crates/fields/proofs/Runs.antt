@@ -11,11 +11,11 @@ use lib.ListN.{length, get_or, take, drop, length-drop, drop_of_length-le}
 use lib.Seq.{drop-cons, drop-drop, length-take-le, get_or-take, get_or-drop}
 use lib.Dec.{ltb, leb, eqb}
 use borrow.Author.Tests.{eq-eqb, ne_eqb, lt-ltb, le-ltb, le-leb, lt-leb, ltb-true, ltb-false, eqb-true, leb-true}
-use Rattle.fields.specs.Field.{zero_digit, nine_digit, comma, lf, is_sep, is_digit, field_len, text_at, end_at, all_digits, digits_on, digits_of, number_of, any_at, any_size, Is, Not}
-use Rattle.fields.proofs.Laws.{field_len-le, ten_more, ten_below, any_by}
+use Rattle.fields.specs.Field.{zero_digit, nine_digit, comma, lf, is_sep, is_digit, field_len, text_at, end_at, all_digits, digits_on, digits_of, number_of, any_at, any_size, after_comma, Is, Not}
+use Rattle.fields.proofs.Laws.{field_len-le, ten_more, ten_below, any_by, comma_there}
 use Rattle.fields.specs.Run.{run_on, run_at, ends_at}
 use Rattle.fields.specs.declared.Run.{Run}
-use Rattle.fields.specs.declared.Got.TheVariants.{Bad}
+use Rattle.fields.specs.Field.{Value, Bad}
 
 -- ---- one byte more
 
@@ -81,9 +81,9 @@ module _ (s : List ℕ) (from stop v i : ℕ) (r : Running s from stop v i) (lon
     pub running_small : v < 10 ^ 18
     running_small = ten_below r.small (omega (arith, r.on))
 
-  pub running_end : stop ≤ i → (stop < from + 19 → stop ≡ length s) → record { value = v; end = i } ≡ run_at s from
+  pub running_end : stop ≤ i → (stop < from + 19 → stop ≡ length s) → record { value = v; end = stop } ≡ run_at s from
   unfolding run_on
-  running_end h e = by_cases (dec_le (from + 19) i)
+  running_end h e = (λ j. record { value = v; end = (let z : stop ≡ i = omega (arith, r.inside) in z) j }) ∙ by_cases (dec_le (from + 19) i)
       (λ k. let z : from + 19 - i ≡ 0 = omega arith in sym (ap (λ n. run_on n v i (drop i s)) z) ∙ r.rest)
       (λ k. sym (run_end s (from + 19 - i) v i (let z = e (omega (arith, r.inside)) in omega arith)) ∙ r.rest)
 
@@ -324,23 +324,35 @@ digits-within s p e h =
     let z = first-most 19 (drop p s) in let w = end_is s p in let d = length-drop p s in let x = ap (λ (r : Run). r.end) e in
     omega arith
 
-module _ (s : List ℕ) (at : ℕ) (lt : at < length s) (eq : get_or s at 0 ≡ comma) (g : Run) (eg : g ≡ run_at s (at + 1)) where
-  same_end : (run_at s (at + 1)).end ≡ g.end
-  same_end = sym (ap (λ (r : Run). r.end) eg)
+module _ (s : List ℕ) (at p : ℕ) (after : Value 0 p ≡ after_comma s at (Value 0 (at + 1))) (g : Run) (eg : g ≡ run_at s p) where
+  abbrev lt : at < length s
+  lt = (comma_there s at p after).0
 
-  pub number-none : g.end ≡ at + 1 → Bad 3 at ≡ any_at s at
-  number-none e = sym (any_by s at lt eq (run_none s (at + 1) (same_end ∙ e)))
+  abbrev eq : get_or s at 0 ≡ comma
+  eq = (comma_there s at p after).1
+
+  abbrev ep : p ≡ at + 1
+  ep = (comma_there s at p after).2
+
+  same_run : run_at s (at + 1) ≡ g
+  same_run = sym (eg ∙ ap (run_at s) ep)
+
+  same_end : (run_at s (at + 1)).end ≡ g.end
+  same_end = ap (λ (r : Run). r.end) same_run
+
+  pub number-none : g.end ≡ p → Bad 3 at ≡ any_at s at
+  number-none e = sym (any_by s at lt eq (run_none s (at + 1) (same_end ∙ e ∙ ep)))
 
   pub number_past : ends_at s g.end ≡ false → Bad 3 at ≡ any_at s at
   number_past e = sym (any_by s at lt eq (run-over s (at + 1) (ap (ends_at s) same_end ∙ e)))
 
-  module _ (some : g.end ≡ at + 1 → ⊥) (e : ends_at s g.end ≡ true) where
-    pub number-zero : at + 1 + 1 < g.end → get_or s (at + 1) 0 ≡ zero_digit → Bad 3 at ≡ any_at s at
-    number-zero h q = sym (any_by s at lt eq (run-zero s (at + 1) (λ x. some (sym same_end ∙ x)) (ap (ends_at s) same_end ∙ e) (let z = same_end in omega arith) q))
+  module _ (some : g.end ≡ p → ⊥) (e : ends_at s g.end ≡ true) where
+    pub number-zero : p + 1 < g.end → get_or s p 0 ≡ zero_digit → Bad 3 at ≡ any_at s at
+    number-zero h q = sym (any_by s at lt eq (run-zero s (at + 1) (λ x. some (sym same_end ∙ x ∙ sym ep)) (ap (ends_at s) same_end ∙ e) (omega (arith, same_end, ep)) (ap (λ i. get_or s i 0) (sym ep) ∙ q)))
 
-    pub number-run : (at + 1 + 1 < g.end → get_or s (at + 1) 0 ≡ zero_digit → ⊥) → any_at s at ≡ any_size at g.end (Is g.value)
+    pub number-run : (p + 1 < g.end → get_or s p 0 ≡ zero_digit → ⊥) → any_at s at ≡ any_size at g.end (Is g.value)
     number-run n =
-        let some' : (run_at s (at + 1)).end ≡ at + 1 → ⊥ = λ x. some (sym same_end ∙ x) in
+        let some' : (run_at s (at + 1)).end ≡ at + 1 → ⊥ = λ x. some (sym same_end ∙ x ∙ sym ep) in
         let e' : ends_at s (run_at s (at + 1)).end ≡ true = ap (ends_at s) same_end ∙ e in
-        any_by s at lt eq (run-number s (at + 1) some' e' (λ h q. n (let z = same_end in omega arith) q))
-        ∙ ap₂ (λ x v. any_size at x (Is v)) (run_ends s (at + 1) some' e' ∙ same_end) (sym (ap (λ (r : Run). r.value) eg))
+        any_by s at lt eq (run-number s (at + 1) some' e' (λ h q. n (omega (arith, same_end, ep)) (ap (λ i. get_or s i 0) ep ∙ q)))
+        ∙ ap₂ (λ x v. any_size at x (Is v)) (run_ends s (at + 1) some' e' ∙ same_end) (ap (λ (r : Run). r.value) same_run)

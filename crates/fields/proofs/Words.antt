@@ -13,7 +13,7 @@ use borrow.Author.Tests.{eqb-false}
 use Rattle.fields.proofs.Laws.{text-within}
 use Rattle.fields.proofs.Ranges.{cond_cases, never}
 use Rattle.fields.specs.Field.{field_len, text_at, end_at, packed, packed_of, word_from, first_at}
-use Rattle.fields.specs.declared.Got.TheVariants.{Value, Bad}
+use Rattle.fields.specs.Field.{Value, Bad}
 
 abbrev pub Bytes : List ℕ → Type 0
 Bytes t = (i : ℕ) → get_or t i 0 < 256

@@ -2,8 +2,11 @@
 use Rattle.std.specs.Prelude.{ℕ, suc, ◌+◌, ◌-◌, ◌*◌, List, [], ◌∷◌, Bool, true, cond, ◌&&◌, ◌||◌, length, get_or, take, drop, ltb, leb, eqb}
 use Prim.Native.Char.{code}
 use Prim.Native.String.{String, [] as ended, ◌∷◌ as ◌then◌}
-use Rattle.fields.specs.declared.Got.{Got}
-use Rattle.fields.specs.declared.Got.TheVariants.{Value, Bad}
+
+-- a value and the position after its field; or a refusal's number and the position before its field
+pub data Got : Type 0 where
+  Value : ℕ → ℕ → Got
+  Bad : ℕ → ℕ → Got
 
 abbrev pub comma : ℕ
 comma = code ","

@@ -4,7 +4,10 @@
 
 ghost use Rattle.std.specs.Prelude.{◌≡◌, true, ◌+◌, ◌≤◌, ◌<◌, length, drop};
 ghost use Rattle.fields.specs.Run.{run_at, ends_at};
-ghost use Rattle.fields.specs.Field.{field_len, packed, packed_of, any_at, word_from, word_at, first_at, line_end_at};
+ghost use Rattle.fields.specs.Field.{Value, after_comma, field_len, packed, packed_of, any_at, word_from, word_at, first_at, line_end_at};
+ghost use Rattle.fields.specs.Told.{told, told_end};
+
+use refusals::Refusal;
 
 const COMMA: u8 = b',';
 
@@ -22,11 +25,11 @@ pub struct Run {
     pub end: usize,
 }
 
-// A value and the position after its field; or a refusal's number and the position before its field.
-#[derive(Clone, Copy)]
-pub enum Got {
-    Value(usize, usize),
-    Bad(usize, usize),
+// What refuses a request, and the position before the field at which it does.
+#[derive(Clone, Copy, PartialEq, Eq)]
+pub struct Refused {
+    pub refusal: Refusal,
+    pub at: usize,
 }
 
 // The position of the comma or LF that ends the field at `at`, or the request's end.
@@ -34,24 +37,12 @@ pub fn field_end(s: &[u8], at: usize) -> usize
     requires { at ≤ length s.now }
     ensures { result ≡ at + field_len (drop at s.now) }
 {
-    let mut i = at;
-    while i < s.len() {
-        let b = s[i];
-        if b == COMMA {
+    for i in at..s.len() {
+        if s[i] == COMMA || s[i] == LF {
             return i;
         }
-        if b == LF {
-            return i;
-        }
-        i += 1;
     }
-    i
-}
-
-fn wide(b: u8) -> usize
-    ensures { result ≡ b }
-{
-    b as usize
+    s.len()
 }
 
 // Where the digits of a number that starts at `from` end at the latest.
@@ -59,10 +50,7 @@ fn latest(from: usize, end: usize) -> usize
     requires { from ≤ end }
     ensures { (from ≤ result) × (result ≤ end) × (result ≤ from + 19) × (result < from + 19 → result ≡ end) }
 {
-    if DIGITS < end - from {
-        return from + DIGITS;
-    }
-    end
+    from + DIGITS.min(end - from)
 }
 
 // The digits that stand from `from` on, up to 19 of them.
@@ -72,58 +60,52 @@ fn digits(s: &[u8], from: usize) -> Run
 {
     let stop = latest(from, s.len());
     let mut v: usize = 0;
-    let mut i = from;
-    while i < stop {
+    for i in from..stop {
         let b = s[i];
         match b {
-            b'0'..=b'9' => {
-                v = v * 10 + wide(b - b'0');
-                i += 1;
-            }
+            b'0'..=b'9' => v = v * 10 + usize::from(b - b'0'),
             _ => return Run { value: v, end: i },
         }
     }
-    Run { value: v, end: i }
+    Run {
+        value: v,
+        end: stop,
+    }
 }
 
 // Whether a field ends at `at`: a comma or an LF stands there, or nothing.
 fn ends(s: &[u8], at: usize) -> bool
     ensures { result ≡ ends_at s.now at }
 {
-    if s.len() <= at {
-        return true;
+    s.len() <= at || s[at] == COMMA || s[at] == LF
+}
+
+// Where the field after a comma at `at` starts.
+fn after_comma(s: &[u8], at: usize) -> Result<usize, Refused>
+    ensures { told_end result ≡ after_comma s.now at (Value 0 (at + 1)) }
+{
+    if s.len() <= at || s[at] != COMMA {
+        return Err(Refused {
+            refusal: Refusal::Missing,
+            at,
+        });
     }
-    let b = s[at];
-    if b == COMMA {
-        return true;
-    }
-    b == LF
+    Ok(at + 1)
 }
 
 // The field after a comma at `at`, as a number.
-pub fn number(s: &[u8], at: usize) -> Got
-    ensures { result ≡ any_at s.now at }
+pub fn number(s: &[u8], at: usize) -> Result<(usize, usize), Refused>
+    ensures { told result ≡ any_at s.now at }
 {
-    if s.len() <= at {
-        return Got::Bad(2, at);
-    }
-    if s[at] != COMMA {
-        return Got::Bad(2, at);
-    }
-    let from = at + 1;
+    let from = after_comma(s, at)?;
     let g = digits(s, from);
-    if g.end == from {
-        return Got::Bad(3, at);
+    if g.end == from || !ends(s, g.end) || (from + 1 < g.end && s[from] == b'0') {
+        return Err(Refused {
+            refusal: Refusal::NotDue,
+            at,
+        });
     }
-    if !ends(s, g.end) {
-        return Got::Bad(3, at);
-    }
-    if from + 1 < g.end {
-        if s[from] == b'0' {
-            return Got::Bad(3, at);
-        }
-    }
-    Got::Value(g.value, g.end)
+    Ok((g.value, g.end))
 }
 
 // A short text as a number in base 256.
@@ -132,120 +114,87 @@ fn pack(text: &[u8]) -> usize
     ensures { result ≡ packed 0 text.now }
 {
     let mut v: usize = 0;
-    let mut i = 0;
-    while i < text.len() {
-        v = v * 256 + wide(text[i]);
-        i += 1;
+    for &b in text {
+        v = v * 256 + usize::from(b);
     }
     v
 }
 
-// A word's number, which no other text has. A text with more letters, or one that starts with a zero byte, is no word: 0.
+// A word's number, which no other text has. A text with more letters, or one that starts with a zero byte, is no word: 0, and no option, as words
+// are matched by their numbers and none has this one.
 fn packed_of(text: &[u8]) -> usize
     ensures { result ≡ packed_of text.now }
 {
-    if text.len() == 0 {
-        return 0;
-    }
-    if LETTERS < text.len() {
-        return 0;
-    }
-    if text[0] == 0 {
+    if text.is_empty() || LETTERS < text.len() || text[0] == 0 {
         return 0;
     }
     pack(text)
 }
 
 // The word that starts at `from`.
-fn bare_word(s: &[u8], from: usize) -> Got
+fn bare_word(s: &[u8], from: usize) -> Result<(usize, usize), Refused>
     requires { from ≤ length s.now }
-    ensures { result ≡ word_from s.now from }
+    ensures { told result ≡ word_from s.now from }
 {
     // Most words are one letter with a comma behind it.
-    if 1 < s.len() - from {
-        if s[from + 1] == COMMA {
-            let b = s[from];
-            if b != COMMA {
-                if b != LF {
-                    return Got::Value(wide(b), from + 1);
-                }
-            }
-        }
+    if 1 < s.len() - from && s[from + 1] == COMMA && s[from] != COMMA && s[from] != LF {
+        return Ok((usize::from(s[from]), from + 1));
     }
     let end = field_end(s, from);
-    Got::Value(packed_of(&s[from..end]), end)
+    Ok((packed_of(&s[from..end]), end))
 }
 
 // The field after a comma at `at`, as a word.
-pub fn word(s: &[u8], at: usize) -> Got
-    ensures { result ≡ word_at s.now at }
+pub fn word(s: &[u8], at: usize) -> Result<(usize, usize), Refused>
+    ensures { told result ≡ word_at s.now at }
 {
-    if s.len() <= at {
-        return Got::Bad(2, at);
-    }
-    if s[at] != COMMA {
-        return Got::Bad(2, at);
-    }
-    bare_word(s, at + 1)
+    bare_word(s, after_comma(s, at)?)
 }
 
-// Whether a comma stands behind four bytes that are all above it, and so above an LF: these are the field that starts at `from`.
-fn four(s: &[u8], from: usize) -> bool
-    requires { from + 4 < length s.now }
-    ensures { result ≡ true → field_len (drop from s.now) ≡ 4 }
-{
-    if s[from + 4] != COMMA {
-        return false;
-    }
-    if s[from] <= COMMA {
-        return false;
-    }
-    if s[from + 1] <= COMMA {
-        return false;
-    }
-    if s[from + 2] <= COMMA {
-        return false;
-    }
-    if s[from + 3] <= COMMA {
-        return false;
-    }
-    true
-}
-
-// The end of the field that starts at `from`: that of most events' words is known at once.
+// The end of the field that starts at `from`. Most events' words are four letters with a comma behind them, and a byte above a comma is no LF.
 fn word_end(s: &[u8], from: usize) -> usize
     requires { from ≤ length s.now }
     ensures { result ≡ from + field_len (drop from s.now) }
 {
-    if 4 < s.len() - from {
-        if four(s, from) {
-            return from + 4;
-        }
+    if 4 < s.len() - from
+        && s[from] > COMMA
+        && s[from + 1] > COMMA
+        && s[from + 2] > COMMA
+        && s[from + 3] > COMMA
+        && s[from + 4] == COMMA
+    {
+        return from + 4;
     }
     field_end(s, from)
 }
 
 // A line's first field, as a word. No line has one of one letter, so none is looked for.
-pub fn first(s: &[u8], at: usize) -> Got
-    ensures { result ≡ first_at s.now at }
+pub fn first(s: &[u8], at: usize) -> Result<(usize, usize), Refused>
+    ensures { told result ≡ first_at s.now at }
 {
     if s.len() <= at {
-        return Got::Bad(2, at);
+        return Err(Refused {
+            refusal: Refusal::Missing,
+            at,
+        });
     }
     let end = word_end(s, at);
-    Got::Value(packed_of(&s[at..end]), end)
+    Ok((packed_of(&s[at..end]), end))
 }
 
 // The LF at `at`.
-pub fn line_end(s: &[u8], at: usize) -> Got
-    ensures { result ≡ line_end_at s.now at }
+pub fn line_end(s: &[u8], at: usize) -> Result<usize, Refused>
+    ensures { told_end result ≡ line_end_at s.now at }
 {
-    if s.len() <= at {
-        return Got::Bad(2, at);
-    }
-    if s[at] == LF {
-        Got::Value(0, at + 1)
-    } else {
-        Got::Bad(9, at)
+    match s.get(at) {
+        Some(&LF) => Ok(at + 1),
+        Some(_) => Err(Refused {
+            refusal: Refusal::TooMany,
+            at,
+        }),
+        None => Err(Refused {
+            refusal: Refusal::Missing,
+            at,
+        }),
     }
 }

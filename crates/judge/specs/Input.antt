@@ -1,9 +1,10 @@
 -- What is known of standard input once it is read. Nothing is known of its bytes: they are the caller's.
-use Rattle.std.specs.Prelude.{ℕ, ◌≤◌, List, length}
-use Rattle.judge.specs.declared.Input.{Input}
-use Rattle.judge.specs.declared.Input.TheVariants.{Whole, Failed}
+use Rattle.std.specs.Prelude.{Option, ℕ, ◌≤◌, ◌<◌, List, length, take}
+use Rattle.std.specs.Io.KnownBytes.{Consumes, IsAtEnd}
 
--- a whole input lies within the buffer that it was read into
-abbrev pub Within : Input → List ℕ → Type 0
-Within (Whole n) buffer = n ≤ length buffer
-Within Failed buffer = Unit {0}
+-- A whole input of n bytes, from what is known to be left of it to what is left then: it lies within the buffer that it was read into,
+-- its bytes stand there in their order, and where the buffer is not full nothing is left
+pub record IsWholeInput (old new : Option (List ℕ)) (n : ℕ) (buffer : List ℕ) : Type 0 where
+  pub within : n ≤ length buffer
+  pub bytes : Consumes old new (take n buffer)
+  pub end : n < length buffer → IsAtEnd new

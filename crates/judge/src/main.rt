@@ -5,45 +5,37 @@
 
 #![tactic(auto)]
 
-ghost use Rattle.judge.specs.Input.{Within};
+ghost use Rattle.std.specs.Prelude.{IfOk};
+ghost use Rattle.judge.specs.Input.{IsWholeInput};
 
 use buffer::ALL_NUMBERS;
 use checker::judge_text;
 use replies::{BYTES, Reply};
-use std::io::{Read, Write};
+use std::io::{self, Read, Write};
 
 // Of a request that is too long, one byte more than the longest is read.
 const READ: usize = BYTES + 1;
 
-// The count of bytes up to the end of the input, or of the buffer; or a read failed.
-#[derive(Drop)]
-enum Input {
-    Whole(usize),
-    Failed,
-}
-
-// Reads until the buffer is full, the input ends or a read fails. `read_to_end` would go on where a
-// signal breaks a read off.
-fn read_whole<R: Read>(input: &mut R, buffer: &mut [u8]) -> Input
-    ensures { Within result buffer.new }
+// Reads until the buffer is full, the input ends or a read fails, and counts the bytes. `read_to_end`
+// would go on where a signal breaks a read off.
+fn read_whole<R: Read>(input: &mut R, buffer: &mut [u8]) -> io::Result<usize>
+    ensures { IfOk result (λ n. IsWholeInput (R.remaining input.old) (R.remaining input.new) n buffer.new) }
 {
     let mut n = 0;
+    // A read says how many bytes it gave.
     while n < buffer.len() {
-        let got = input.read(&mut buffer[n..]);
-        let Ok(more) = got else {
-            return Input::Failed;
-        };
+        let more = input.read(&mut buffer[n..])?;
         if more == 0 {
-            return Input::Whole(n);
+            return Ok(n);
         }
         n += more;
     }
-    Input::Whole(n)
+    Ok(n)
 }
 
 fn main(rt: HostRuntime) {
     let mut request = [0u8; READ];
-    let Input::Whole(n) = read_whole(&mut rt.stdin(), &mut request) else {
+    let Ok(n) = read_whole(&mut rt.stdin(), &mut request) else {
         return;
     };
     let mut numbers = [0usize; ALL_NUMBERS];

@@ -4,8 +4,9 @@ use Prim.Native.Nat.{ℕ, zero, suc, ◌+◌, ◌-◌, ◌*◌, ◌≤◌, ◌<�
 use mathlib.Core.List.{List, [], ◌∷◌, ◌++◌, map, append_assoc, append-nil}
 use native.Mathlib.Numerals.{add-one}
 use native.Mathlib.Omega.{arith}
-use lib.ListN.{length, take, drop, get_or, set, replicate, length-append, length-drop, length-map, length-replicate}
-use lib.Seq.{length-take-le, take-suc, take-length, drop-cons, drop-length, set_at, ext_get_or}
+use lib.ListN.{length, take, drop, get_or, set, replicate, take-append-drop, length-append, length-drop, length-map, length-replicate}
+use Rattle.std.proofs.lemmas.List.{get_or-drop, drop_all}
+use lib.Seq.{take_at, take_all, length-take-le, take-suc, drop-cons, set_at, ext_get_or}
 use Rattle.bitml.specs.Lists.{below}
 use Rattle.bitml.specs.Rows as bitml
 use Rattle.bitml.specs.Answers as answers
@@ -25,11 +26,13 @@ pub structs-at : (n : ℕ) (xs : List ℕ) (i : ℕ) → i < n → get_or (struc
 unfolding structs
 structs-at n xs i h = get_d_up (struct_at xs) no_row 0 n i i (omega arith) h
 
-pub struct_is : (xs : List ℕ) (i a b c : ℕ) → a ≡ get_or xs (row_wide * i + 0) 0 → b ≡ get_or xs (row_wide * i + 1) 0 → c ≡ get_or xs (row_wide * i + 2) 0 → record { node = a; branch = b; rank = c } ≡ struct_at xs i
+-- a row is the first one of the numbers from it on
+pub struct_from : (xs : List ℕ) (i : ℕ) → struct_at (take (length xs - row_wide * i) (drop (row_wide * i) xs)) 0 ≡ struct_at xs i
 unfolding struct_at struct_of
-struct_is xs i a b c e f g =
+struct_from xs i =
+    let e : take (length xs - row_wide * i) (drop (row_wide * i) xs) ≡ drop (row_wide * i) xs = take_all _ _ (omega (arith, length-drop (row_wide * i) xs)) in
     let z : row_wide * i + 0 ≡ row_wide * i = omega arith in
-    rw (e, f, g, z)
+    rw e (simp (get_or-drop, z))
 
 -- past the numbers
 pub struct_none : (xs : List ℕ) (i : ℕ) → length xs ≤ row_wide * i → no_row ≡ struct_at xs i
@@ -55,14 +58,20 @@ module _ (xs : List ℕ) (ys : List Row) (i : ℕ) where
       ∙ set_at (take i zs) (get_or ys i no_row) (drop (suc i) ys) (struct_at xs i) i (length-take-le i zs (omega (arith, l)))
       ∙ sym (rw (add-one, take-suc zs i no_row (omega (arith, l)), structs-at (length ys) xs i h) (simp append_assoc))
 
-  pub written_all : i ≡ length ys → written xs ys i ≡ structs (length ys) xs
-  written_all e =
-      let zs = structs (length ys) xs in
-      ap (written xs ys) e
-      ∙ ap (λ (t : List Row). take (length ys) zs ++ t) (drop-length ys)
-      ∙ append-nil (take (length ys) zs)
-      ∙ ap (λ k. take k zs) (sym (structs-length (length ys) xs))
-      ∙ take-length zs
+-- zeros past the places that the numbers reach into, n of them
+pub written_all : (xs : List ℕ) (ys zs : List Row) (n : ℕ) → n ≤ length ys → (n < length ys → length xs ≤ row_wide * n) → zs ≡ written xs ys n
+    → take n zs ++ (replicate (length zs - n) no_row ++ drop (length zs - n) (drop n zs)) ≡ structs (length ys) xs
+written_all xs ys zs n h past e =
+    let S = structs (length ys) xs in
+    let l = structs-length (length ys) xs in
+    let m : length zs ≡ length ys = ap (λ us. length us) e ∙ written-length xs ys n h in
+    let a : take n zs ≡ take n S = ap (take n) e ∙ take_at (take n S) (drop n ys) n (length-take-le n S (omega arith)) in
+    let b : drop (length zs - n) (drop n zs) ≡ [] = drop_all (length zs - n) (drop n zs) (omega (arith, length-drop n zs)) in
+    let c : replicate (length zs - n) no_row ≡ drop n S =
+    ext_get_or no_row _ _ (omega (arith, length-drop n S, length-replicate (length zs - n) no_row))
+    (λ i g. let k : n + i < length ys = omega (arith, length-replicate (length zs - n) no_row) in
+    at-replicate (length zs - n) i no_row ∙ struct_none xs (n + i) (omega arith) ∙ sym (structs-at (length ys) xs (n + i) k) ∙ sym (get_or-drop n S i no_row)) in
+    rw (a, b, append-nil, c) (take-append-drop n S)
 
 -- ---- rows, and zero past them
 

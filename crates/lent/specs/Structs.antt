@@ -1,8 +1,8 @@
 -- The rows that a caller lends, as structs. Assumes nothing.
-use Rattle.std.specs.Prelude.{ℕ, ◌+◌, ◌/◌, cond, List, map, ltb}
+use Rattle.std.specs.Prelude.{ℕ, List, map}
 use Rattle.bitml.specs.Lists.{below}
 use Rattle.bitml.specs.Rows as bitml
-use Rattle.buffer.specs.Buffer.{row_wide, row_in}
+use Rattle.buffer.specs.Buffer.{row_in}
 use Rattle.lent.specs.declared.Row.{Row}
 
 -- "zero past them"
@@ -16,10 +16,6 @@ struct_of r = record { node = r.node; branch = r.branch; rank = r.rank }
 -- The row in place i of a buffer of numbers; 0 where they end
 unfoldable pub struct_at : List ℕ → ℕ → Row
 struct_at xs i = struct_of (row_in xs i)
-
--- How many of n places k numbers reach into
-unfoldable pub reached_of : ℕ → ℕ → ℕ
-reached_of n k = cond (ltb (k / row_wide) n) (k / row_wide + 1) n
 
 -- "The row buffer holds the rows .. and is zero past them": all of n places
 unfoldable pub structs : ℕ → List ℕ → List Row

@@ -13,10 +13,10 @@ use Rattle.tables.specs.Entries.{first_of, node_in, def_in}
 use Rattle.tables.specs.State.{State, state_of, nodes_of, branches_of, defs_of, listed_of, cells_of, with_listed, with_def, def_entry, more_defs}
 use Rattle.tables.proofs.Runs.{first_of-length}
 use Rattle.tables.proofs.Laws.{listed-length}
-use Rattle.steps.specs.declared.Read.{Read}
-use Rattle.steps.specs.declared.Read.TheVariants.{Value, Bad}
+use Rattle.steps.specs.Steps.{Read}
+use Rattle.steps.specs.Steps.{Value, Bad}
 use Rattle.steps.specs.Steps.{Outcome, next, bad, moved, Met, go_on, either, and_then, times}
-use Rattle.steps.proofs.Laws.{Took, took_line-end, passed, refused, done, Leads}
+use Rattle.steps.proofs.Laws.{Took, took_line-end, passed, refused, by, done, Leads}
 use Rattle.conditions.specs.Condition.{HasRoom}
 use Rattle.contracts.specs.declared.Limits.{Limits}
 use Rattle.contracts.specs.Contract.{read_contract}
@@ -31,16 +31,25 @@ twice-last (suc k) h e = ap (λ m. 2 * m) (e ∙ ap (λ p. 2 ^ p) (sub-one (suc 
 
 -- the deposits, one by one
 module _ (P : St → Type 0) (s : List ℕ) where
-  pub deposits-more : (sum n : ℕ) (a : State) → 0 < n
-      → Leads P (go_on a (number_at s a.at 2100000000000000) λ v a₁. either (ltb 2100000000000000 (sum + v)) (bad 7 a.at) (deposits_at s (sum + v) (n - 1) (with_listed v a₁))) (deposits_at s sum n a)
+  deposits-suc : (sum n : ℕ) (a : State)
+      → Leads P (go_on a (number_at s a.at 2100000000000000) λ v a₁. either (ltb 2100000000000000 (sum + v)) (bad 7 a.at) (deposits_at s (sum + v) n (with_listed v a₁))) (deposits_at s sum (suc n) a)
   unfolding deposits_at
-  deposits-more sum zero a h r t m = absurd (omega arith)
-  deposits-more sum (suc n) a h r t m = simp (sub-one) at m
+  deposits-suc sum n a r t m = m
 
-  pub deposits-none : (sum n : ℕ) (a : State) → n ≤ 0 → Leads P (next a) (deposits_at s sum n a)
+  deposits-zero : (sum : ℕ) (a : State) → Leads P (next a) (deposits_at s sum 0 a)
   unfolding deposits_at
-  deposits-none sum zero a h r t m = m
-  deposits-none sum (suc n) a h r t m = absurd (omega arith)
+  deposits-zero sum a r t m = m
+
+  pub deposits-more : (sum n i : ℕ) (a : State) → i < n
+      → Leads P (go_on a (number_at s a.at 2100000000000000) λ v a₁. either (ltb 2100000000000000 (sum + v)) (bad 7 a.at) (deposits_at s (sum + v) (n - (i + 1)) (with_listed v a₁))) (deposits_at s sum (n - i) a)
+  deposits-more sum n i a h r t m =
+      let e : n - i ≡ suc (n - (i + 1)) = omega arith in
+      by (ap (λ j. deposits_at s sum j a) (sym e)) (deposits-suc sum (n - (i + 1)) a r t m)
+
+  pub deposits-none : (sum n i : ℕ) (a : State) → n ≤ i → Leads P (next a) (deposits_at s sum (n - i) a)
+  deposits-none sum n i a h r t m =
+      let e : n - i ≡ 0 = omega arith in
+      by (ap (λ j. deposits_at s sum j a) (sym e)) (deposits-zero sum a r t m)
 
   pub deposits_from : (sum n : ℕ) (x a : State) → x ≡ a → Leads P (deposits_at s sum n x) (deposits_at s sum n a)
   deposits_from sum n x a h r t m = rw h at m
@@ -60,7 +69,7 @@ module _ (P : St → Type 0) (s : List ℕ) where
 
   -- the last field
   pub finish : (st : St) (r : Read) (t : List ℕ) → r ≡ moved st (line_end_at s st.at) → ((e : St) → Took s 1 st e → P e) → Met P (go_on (state_of st t) (line_end_at s st.at) λ v a. next a) r t
-  finish st (Value v e) t h f = passed st _ t _ h refl (done refl (f e (took_line-end h refl)))
+  finish st (Value v e) t h f = passed st _ t _ h (done refl (f e (took_line-end h)))
   finish st (Bad n p) t h f = refused st _ t _ h refl
 
 -- ---- counts
@@ -101,19 +110,18 @@ module _ (s : List ℕ) where
 
   -- ---- the lines, one by one
 
-  pub nothing-between : (n at : ℕ) → at ≤ length s → length s ≤ 65536 → Defined s (n - n) (record { at = at; nodes = 0; branches = 0; defs = 0; listed = 0; cells = 0 })
-  nothing-between n at h i =
+  pub nothing-between : (at : ℕ) → at ≤ length s → length s ≤ 65536 → Defined s 0 (record { at = at; nodes = 0; branches = 0; defs = 0; listed = 0; cells = 0 })
+  nothing-between at h i =
       record {
         between = record { few-nodes = omega arith; few-branches = omega arith; few-listed = omega arith; few-cells = omega arith; inside = h; short = i };
         now_defs = omega arith;
       }
 
-  pub defined_more : (n left : ℕ) (st e : St) → Defined s (n - left) st → Defined s (st.defs + 1) e → 0 < left → left ≤ n → Defined s (n - (left - 1)) e
-  defined_more n left st e a b h i = record { between = b.between; now_defs = omega (arith, a.now_defs, b.now_defs) }
+  pub defined_more : (i : ℕ) (st e : St) → Defined s i st → Defined s (st.defs + 1) e → Defined s (i + 1) e
+  defined_more i st e a b = record { between = b.between; now_defs = omega (arith, a.now_defs, b.now_defs) }
 
-  pub defined_all : (n left : ℕ) (st : St) → Defined s (n - left) st → left ≤ 0 → Defined s n st
-  defined_all n left st a h = record { between = a.between; now_defs = omega (arith, a.now_defs) }
-
-  pub from_blank : (z : Limits) (n p : ℕ) (t : List ℕ) → Leads (Defined s n) (times n (define_at s z) (state_of (record { at = p; nodes = 0; branches = 0; defs = 0; listed = 0; cells = 0 }) t)) (times n (define_at s z) (blank p))
+  pub from_blank : (z : Limits) (n p : ℕ) (t : List ℕ) → Leads (Defined s n) (times (n - 0) (define_at s z) (state_of (record { at = p; nodes = 0; branches = 0; defs = 0; listed = 0; cells = 0 }) t)) (times n (define_at s z) (blank p))
   unfolding nodes_of branches_of defs_of listed_of cells_of first_of
-  from_blank z n p t r u m = m
+  from_blank z n p t r u m =
+      let e : n - 0 ≡ n = omega arith in
+      by (ap (λ i. times i (define_at s z) (blank p)) e) m

@@ -1,14 +1,14 @@
 -- The whole sheet: "line 1 and its `def` lines", and "32,768 bytes up to the last `def` line's LF". Assumes nothing.
 use Rattle.std.specs.Prelude.{ℕ, ◌^◌, ◌≤◌, List, length, get_or, ltb, leb}
-use Rattle.fields.specs.declared.Got.{Got}
-use Rattle.fields.specs.declared.Got.TheVariants as got
+use Rattle.fields.specs.Field.{Got}
+use Rattle.fields.specs.Field as got
 use Rattle.places.specs.Places.{passing_of}
 use Rattle.tables.specs.Entries.{Entries, held, people, most_nodes, most_defs}
 use Rattle.tables.specs.State.{entries}
 use Rattle.steps.specs.Steps.{Outcome, next, bad, either, times}
 use Rattle.contracts.specs.declared.Limits.{Limits}
-use Rattle.lines.specs.declared.LineOne.{LineOne}
-use Rattle.lines.specs.declared.LineOne.TheVariants.{Counts, Bad}
+use Rattle.lines.specs.LineOne.{LineOne}
+use Rattle.lines.specs.LineOne.{Counts, Bad}
 use Rattle.lines.specs.LineOne.{line_one_at}
 use Rattle.lines.specs.Definition.{define_at, blank}
 

@@ -2,23 +2,26 @@
 
 #![tactic(auto)]
 
-ghost use Rattle.std.specs.Prelude.{◌≡◌, List, ℕ, ◌+◌, ◌≤◌, ◌<◌, length};
+ghost use Rattle.std.specs.Prelude.{◌≡◌, ◌+◌, ◌≤◌, ◌<◌, length};
+ghost use Rattle.refusals.specs.Numbers.{number};
+ghost use Rattle.fields.specs.Told.{told_end};
 ghost use Rattle.tables.specs.State.{state_of};
 ghost use Rattle.tables.specs.Entries.{Spacious, most_listed, most_defs};
-ghost use Rattle.steps.specs.Steps.{Outcome, Met, times};
+ghost use Rattle.steps.specs.Filling.{Same};
+ghost use Rattle.steps.specs.Steps.{Met, bad, times, told_state};
 ghost use Rattle.conditions.specs.Condition.{HasRoom};
-ghost use Rattle.lines.specs.LineOne.{counts_at, line_one_at};
+ghost use Rattle.lines.specs.LineOne.{Counts, counts_at, line_one_at, told_line};
 ghost use Rattle.contracts.specs.Counts.{Added};
 ghost use Rattle.lines.specs.Counts.{Between, Defined};
 ghost use Rattle.lines.specs.Definition.{deposits_at, owner_at, root_at, owned_at, define_at, blank};
 ghost use Rattle.lines.specs.Sheet.{limited, sheet_from, read_sheet, answered, WhenAccepted};
-ghost use Rattle.lines.specs.declared.LineOne.TheVariants.{Counts};
 
 use contracts::{Limits, contract};
-use fields::Got;
+use fields::Refused;
 use places::passing;
-use reader::{first_from, line_end_from, number_between};
-use steps::{Read, end_line, first_word, num};
+use reader::Reader;
+use refusals::Refusal;
+use steps::{Filling, end_line, first_word, num, refused};
 use tables::{Sheet, St, mask_of, put_def, put_header, put_listed};
 
 // The words, as numbers in base 256.
@@ -29,183 +32,126 @@ const BITML: usize = (((b'b' as usize * 256 + b'i' as usize) * 256 + b't' as usi
 
 const DEF: usize = (b'd' as usize * 256 + b'e' as usize) * 256 + b'f' as usize;
 
-// K and F, and the position after line 1; or a refusal.
-#[derive(Clone, Copy)]
-pub enum LineOne {
-    Counts(usize, usize, usize),
-    Bad(usize, usize),
+// K and F, which stand after the word of line 1, and the position after the line.
+fn counts(s: &[u8], at: usize) -> Result<(usize, usize, usize), Refused>
+    ensures { told_line result ≡ counts_at s.now at }
+{
+    let (k, p) = Reader { request: s, at }.number_between(1, Sheet::PEOPLE)?;
+    let (n, q) = Reader { request: s, at: p }.number_between(1, Sheet::DEFS)?;
+    let e = Reader { request: s, at: q }.line_end()?;
+    Ok((k, n, e))
 }
 
-// K and F, which stand after the word of line 1.
-fn counts(s: &[u8], at: usize) -> LineOne
-    ensures { result ≡ counts_at s.now at }
+// Line 1: K, F and the position after it.
+pub fn line_one(s: &[u8]) -> Result<(usize, usize, usize), Refused>
+    ensures { told_line result ≡ line_one_at s.now }
 {
-    let h = number_between(s, at, 1, Sheet::PEOPLE);
-    match h {
-        Got::Value(k, q) => {
-            let i = number_between(s, q, 1, Sheet::DEFS);
-            match i {
-                Got::Value(n, r) => {
-                    let l = line_end_from(s, r);
-                    match l {
-                        Got::Value(_, e) => LineOne::Counts(k, n, e),
-                        Got::Bad(m, p) => LineOne::Bad(m, p),
-                    }
-                }
-                Got::Bad(m, p) => LineOne::Bad(m, p),
-            }
-        }
-        Got::Bad(m, p) => LineOne::Bad(m, p),
+    let r = Reader { request: s, at: 0 };
+    let (w, p) = r.first()?;
+    if w != BITML {
+        return Err(r.refused(Refusal::NotDue));
     }
-}
-
-// Line 1.
-pub fn line_one(s: &[u8]) -> LineOne
-    ensures { result ≡ line_one_at s.now }
-{
-    let g = first_from(s, 0);
-    match g {
-        Got::Value(w, p) => {
-            if w == BITML {
-                return counts(s, p);
-            }
-            LineOne::Bad(3, 0)
-        }
-        Got::Bad(m, p) => LineOne::Bad(m, p),
-    }
+    counts(s, p)
 }
 
 // n deposits.
-fn deposits(s: &[u8], st: St, n: usize, t: &mut [usize]) -> Read
-    requires spacious { Spacious s.now t.old }
-    requires has_room { HasRoom s.now st }
+fn deposits(filling: &mut Filling, st: St, n: usize) -> Result<St, Refused>
+    requires has_room { HasRoom filling.old.request.now st }
     requires n_bound { st.listed + n ≤ most_listed }
-    ensures { Met (Added s.now 0 n st) (deposits_at s.now 0 n (state_of st t.old)) result t.new }
+    ensures same { Same filling.old filling.new }
+    ensures met { Met (Added filling.old.request.now 0 n st) (deposits_at filling.old.request.now 0 n (state_of st filling.old.table.now)) (told_state result) filling.new.table.now }
 {
     let mut cur = st;
-    let mut left = n;
-    let mut sum: usize = 0;
-    while 0 < left {
-        let g = num(s, cur, Sheet::DEPOSITS);
-        let Read::Value(v, e) = g else {
-            return g;
-        };
+    let mut sum = 0;
+    for _ in 0..n {
+        let (v, e) = num(filling.request, cur, Sheet::DEPOSITS)?;
         sum += v;
         if Sheet::DEPOSITS < sum {
-            return Read::Bad(7, cur.at);
+            return Err(refused(cur, Refusal::OverLimit));
         }
-        cur = put_listed(t, e, v);
-        left -= 1;
+        cur = put_listed(filling.table, e, v);
     }
-    Read::Value(0, cur)
+    Ok(cur)
 }
 
 // The owner of a secret.
-fn owner(s: &[u8], st: St, people: usize, t: &mut [usize]) -> Read
-    requires spacious { Spacious s.now t.old }
-    requires has_room { HasRoom s.now st }
+fn owner(filling: &mut Filling, st: St, people: usize) -> Result<St, Refused>
+    requires has_room { HasRoom filling.old.request.now st }
     requires listed_lt_most_listed { st.listed < most_listed }
-    ensures { Met (Added s.now 0 1 st) (owner_at s.now people (state_of st t.old)) result t.new }
+    ensures same { Same filling.old filling.new }
+    ensures met { Met (Added filling.old.request.now 0 1 st) (owner_at filling.old.request.now people (state_of st filling.old.table.now)) (told_state result) filling.new.table.now }
 {
-    let g = num(s, st, Sheet::NUMBER);
-    let Read::Value(v, e) = g else {
-        return g;
-    };
-    if v < people {
-        let next = put_listed(t, e, v);
-        return Read::Value(0, next);
+    let (v, e) = num(filling.request, st, Sheet::NUMBER)?;
+    if people <= v {
+        return Err(refused(st, Refusal::Unknown));
     }
-    Read::Bad(6, st.at)
+    Ok(put_listed(filling.table, e, v))
 }
 
 // The owners of n secrets.
-fn owners(s: &[u8], st: St, n: usize, people: usize, t: &mut [usize]) -> Read
-    requires spacious { Spacious s.now t.old }
-    requires has_room { HasRoom s.now st }
+fn owners(filling: &mut Filling, st: St, n: usize, people: usize) -> Result<St, Refused>
+    requires has_room { HasRoom filling.old.request.now st }
     requires n_bound { st.listed + n ≤ most_listed }
-    ensures { Met (Added s.now 0 n st) (times n (owner_at s.now people) (state_of st t.old)) result t.new }
+    ensures same { Same filling.old filling.new }
+    ensures met { Met (Added filling.old.request.now 0 n st) (times n (owner_at filling.old.request.now people) (state_of st filling.old.table.now)) (told_state result) filling.new.table.now }
 {
     let mut cur = st;
-    let mut left = n;
-    while 0 < left {
-        let g = owner(s, cur, people, t);
-        let Read::Value(_, e) = g else {
-            return g;
-        };
-        cur = e;
-        left -= 1;
+    for _ in 0..n {
+        cur = owner(filling, cur, people)?;
     }
-    Read::Value(0, cur)
+    Ok(cur)
 }
 
 // A definition's contract, whose node is the next, and the end of the line.
-fn root(s: &[u8], st: St, first: usize, n: usize, z: Limits, t: &mut [usize]) -> Read
-    requires spacious { Spacious s.now t.old }
-    requires between { Between s.now 24 st }
+fn root(filling: &mut Filling, st: St, first: usize, n: usize, z: Limits) -> Result<St, Refused>
+    requires between { Between filling.old.request.now 24 st }
     requires defs_lt_most_defs { st.defs < most_defs }
-    ensures { Met (Defined s.now (st.defs + 1)) (root_at s.now z first n (state_of st t.old)) result t.new }
+    ensures same { Same filling.old filling.new }
+    ensures met { Met (Defined filling.old.request.now (st.defs + 1)) (root_at filling.old.request.now z first n (state_of st filling.old.table.now)) (told_state result) filling.new.table.now }
 {
+    let next = put_def(filling.table, st, st.nodes, first, n);
     let lim = Limits {
-        all: z.all,
-        people: z.people,
-        defs: z.defs,
         def: st.defs,
         secrets: n,
+        ..z
     };
-    let next = put_def(t, st, st.nodes, first, n);
-    let g = contract(s, next, Sheet::DEPTH, Sheet::BRANCHES, 0, lim, t);
-    let Read::Value(_, e) = g else {
-        return g;
-    };
-    end_line(s, e)
+    let e = contract(filling, next, Sheet::DEPTH, Sheet::BRANCHES, 0, lim)?;
+    end_line(filling.request, e)
 }
 
 // The count of secrets, their owners and the contract.
-fn owned(s: &[u8], st: St, first: usize, z: Limits, t: &mut [usize]) -> Read
-    requires spacious { Spacious s.now t.old }
-    requires between { Between s.now 16 st }
+fn owned(filling: &mut Filling, st: St, first: usize, z: Limits) -> Result<St, Refused>
+    requires between { Between filling.old.request.now 16 st }
     requires defs_lt_most_defs { st.defs < most_defs }
-    ensures { Met (Defined s.now (st.defs + 1)) (owned_at s.now z first (state_of st t.old)) result t.new }
+    ensures same { Same filling.old filling.new }
+    ensures met { Met (Defined filling.old.request.now (st.defs + 1)) (owned_at filling.old.request.now z first (state_of st filling.old.table.now)) (told_state result) filling.new.table.now }
 {
-    let g = num(s, st, Sheet::SECRETS);
-    let Read::Value(n, e) = g else {
-        return g;
-    };
-    let o = owners(s, e, n, z.people, t);
-    let Read::Value(_, f) = o else {
-        return o;
-    };
-    root(s, f, first, n, z, t)
+    let (n, e) = num(filling.request, st, Sheet::SECRETS)?;
+    let f = owners(filling, e, n, z.people)?;
+    root(filling, f, first, n, z)
 }
 
 // A `def` line.
-fn define(s: &[u8], st: St, z: Limits, t: &mut [usize]) -> Read
-    requires spacious { Spacious s.now t.old }
-    requires between { Between s.now 0 st }
+fn define(filling: &mut Filling, st: St, z: Limits) -> Result<St, Refused>
+    requires between { Between filling.old.request.now 0 st }
     requires defs_lt_most_defs { (st.defs < most_defs) × (z.people ≤ 16) }
-    ensures { Met (Defined s.now (st.defs + 1)) (define_at s.now z (state_of st t.old)) result t.new }
+    ensures same { Same filling.old filling.new }
+    ensures met { Met (Defined filling.old.request.now (st.defs + 1)) (define_at filling.old.request.now z (state_of st filling.old.table.now)) (told_state result) filling.new.table.now }
 {
-    let g = first_word(s, st);
-    let Read::Value(w, e) = g else {
-        return g;
-    };
+    let (w, e) = first_word(filling.request, st)?;
     if w != DEF {
-        return Read::Bad(3, st.at);
+        return Err(refused(st, Refusal::NotDue));
     }
-    let first = e.listed;
-    let d = deposits(s, e, z.people, t);
-    let Read::Value(_, f) = d else {
-        return d;
-    };
-    owned(s, f, first, z, t)
+    let f = deposits(filling, e, z.people)?;
+    owned(filling, f, e.listed, z)
 }
 
 // The n `def` lines after line 1.
-fn definitions(s: &[u8], at: usize, n: usize, z: Limits, t: &mut [usize]) -> Read
-    requires spacious { Spacious s.now t.old }
-    requires at_in_bounds { (at ≤ length s.now) × (length s.now ≤ 65536) }
+fn definitions(filling: &mut Filling, at: usize, n: usize, z: Limits) -> Result<St, Refused>
+    requires at_in_bounds { (at ≤ length filling.old.request.now) × (length filling.old.request.now ≤ 65536) }
     requires n_le_most_defs { (n ≤ most_defs) × (z.people ≤ 16) }
-    ensures { Met (Defined s.now n) (times n (define_at s.now z) (blank at)) result t.new }
+    ensures same { Same filling.old filling.new }
+    ensures met { Met (Defined filling.old.request.now n) (times n (define_at filling.old.request.now z) (blank at)) (told_state result) filling.new.table.now }
 {
     let mut cur = St {
         at,
@@ -215,55 +161,35 @@ fn definitions(s: &[u8], at: usize, n: usize, z: Limits, t: &mut [usize]) -> Rea
         listed: 0,
         cells: 0,
     };
-    let mut left = n;
-    while 0 < left {
-        let g = define(s, cur, z, t);
-        let Read::Value(_, e) = g else {
-            return g;
-        };
-        cur = e;
-        left -= 1;
+    for _ in 0..n {
+        cur = define(filling, cur, z)?;
     }
-    Read::Value(0, cur)
+    Ok(cur)
 }
 
-// The limit on the sheet's bytes, put on what was read without it.
-fn limit(s: &[u8], g: Read) -> Read
-    ensures { (n : ℕ) (w : Outcome) (t : List ℕ) → Met (Defined s.now n) w g t → Met (Defined s.now n) (limited s.now w) result t }
+// What refuses the sheet with the limit on its bytes, where e does without it.
+fn limited(s: &[u8], e: Refused) -> Refused
+    ensures { limited s.now (bad (number e.refusal) e.at) ≡ bad (number result.refusal) result.at }
 {
     if s.len() <= Sheet::BYTES {
-        return g;
+        return e;
     }
-    match g {
-        Read::Value(v, e) => {
-            if e.at <= Sheet::BYTES {
-                return Read::Value(v, e);
-            }
-            let q = passing(s, Sheet::BYTES);
-            Read::Bad(7, q)
-        }
-        Read::Bad(n, p) => {
-            let q = passing(s, Sheet::BYTES);
-            if p < q {
-                return Read::Bad(n, p);
-            }
-            if q < p {
-                return Read::Bad(7, q);
-            }
-            if n < 7 {
-                return Read::Bad(n, p);
-            }
-            Read::Bad(7, p)
-        }
+    let at = passing(s, Sheet::BYTES);
+    if e.at < at || e.at == at && e.refusal.number() < Refusal::OverLimit.number() {
+        return e;
+    }
+    Refused {
+        refusal: Refusal::OverLimit,
+        at,
     }
 }
 
-// The `def` lines after line 1, for K participants, with the limit on bytes; then the table has its header.
-fn after_line_one(s: &[u8], k: usize, n: usize, at: usize, t: &mut [usize]) -> Got
-    requires spacious { Spacious s.now t.old }
-    requires at_in_bounds { (at ≤ length s.now) × (length s.now ≤ 65536) }
+// The `def` lines after line 1, for K participants, with the limit on bytes; then the table has its header. The position after them.
+fn after_line_one(filling: &mut Filling, k: usize, n: usize, at: usize) -> Result<usize, Refused>
+    requires at_in_bounds { (at ≤ length filling.old.request.now) × (length filling.old.request.now ≤ 65536) }
     requires le_k { (1 ≤ k) × (k ≤ 16) × (1 ≤ n) × (n ≤ most_defs) }
-    ensures { (answered result t.new ≡ sheet_from s.now (Counts k n at)) × WhenAccepted s.now result t.new }
+    ensures same { Same filling.old filling.new }
+    ensures met { (answered (told_end result) filling.new.table.now ≡ sheet_from filling.old.request.now (Counts k n at)) × WhenAccepted filling.old.request.now (told_end result) filling.new.table.now }
 {
     let z = Limits {
         // one more than the numbers of all K together
@@ -273,32 +199,34 @@ fn after_line_one(s: &[u8], k: usize, n: usize, at: usize, t: &mut [usize]) -> G
         def: 0,
         secrets: 0,
     };
-    let g = definitions(s, at, n, z, t);
-    let h = limit(s, g);
-    match h {
-        Read::Value(_, e) => {
-            put_header(t, k, e);
-            Got::Value(0, e.at)
-        }
-        Read::Bad(m, p) => Got::Bad(m, p),
+    let e = match definitions(filling, at, n, z) {
+        Ok(e) => e,
+        Err(e) => return Err(limited(filling.request, e)),
+    };
+    if Sheet::BYTES < e.at {
+        return Err(Refused {
+            refusal: Refusal::OverLimit,
+            at: passing(filling.request, Sheet::BYTES),
+        });
     }
+    put_header(filling.table, k, e);
+    Ok(e.at)
 }
 
-// The sheet: line 1 and its `def` lines, read into the table, whatever it held.
-pub fn sheet(s: &[u8], t: &mut [usize]) -> Got
+// The sheet: line 1 and its `def` lines, read into the table, whatever it held. The position after it.
+pub fn sheet(s: &[u8], t: &mut [usize]) -> Result<usize, Refused>
     requires spacious { Spacious s.now t.old }
     requires s_len_bound { length s.now ≤ 65536 }
-    ensures { (answered result t.new ≡ read_sheet s.now) × WhenAccepted s.now result t.new }
+    ensures { (answered (told_end result) t.new ≡ read_sheet s.now) × WhenAccepted s.now (told_end result) t.new }
 {
-    let o = line_one(s);
-    match o {
-        LineOne::Counts(k, n, p) => after_line_one(s, k, n, p, t),
-        LineOne::Bad(m, p) => {
-            let h = limit(s, Read::Bad(m, p));
-            match h {
-                Read::Value(_, e) => Got::Value(0, e.at),
-                Read::Bad(a, b) => Got::Bad(a, b),
-            }
+    match line_one(s) {
+        Ok((k, n, at)) => {
+            let mut filling = Filling {
+                request: s,
+                table: t,
+            };
+            after_line_one(&mut filling, k, n, at)
         }
+        Err(e) => Err(limited(s, e)),
     }
 }

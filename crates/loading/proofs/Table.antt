@@ -3,13 +3,12 @@ use mathlib.Core.Path.{◌≡◌, refl, sym, ap, ap₂, ◌∙◌}
 use Prim.Native.Nat.{ℕ, ◌+◌, ◌-◌, ◌*◌, ◌≤◌, ◌<◌}
 use native.Mathlib.Omega.{arith}
 use mathlib.Core.List.{List, [], ◌++◌, append_assoc, append-nil}
-use lib.ListN.{length, get_or, take, drop, replicate, length-append, length-drop, length-replicate, replicate-append-replicate}
+use lib.ListN.{length, get_or, take, drop, replicate, length-append, length-replicate, replicate-append-replicate}
 use lib.Seq.{length-take-le, get_or-take, take-take, take-add, take_at, drop_at, take-append-le, take-length, drop-drop}
+use borrow.Rule.Slice.PartMut.{put_mid}
 use Rattle.tables.specs.Entries.{Entries, node_cells, branch_cells, def_cells, flat, first_of, node_in, branch_in, def_in, listed_in, cell_in, held, people, table_long, node_wide, branch_wide, def_wide, nodes_from, branches_from, defs_from, listed_from, cells_from, most_nodes, most_branches, most_listed, most_cells, most_defs}
 use Rattle.tables.proofs.Runs.{first_of-length}
 use Rattle.tables.proofs.Sections.{Section, flat-long, part_is, holds, nodes_section, branches_section, defs_section, numbers_part, numbers-held}
-use Rattle.buffer.specs.Buffer.{filled}
-use Rattle.buffer.proofs.Buffer.{filled_none}
 use Rattle.reading.specs.Promises.{Sizes}
 use Rattle.reading.proofs.Sizes.{sizes-within}
 use Rattle.loading.specs.Table.{padded, header_cells, section_cells, table_of}
@@ -134,15 +133,11 @@ numbers_zeros u v Z start n to e h k =
     let xs = first_of (λ i. get_or u (start + i) 0) n in
     zeros_behind u v Z xs start (start + n) to e (omega (arith, first_of-length (λ i. get_or u (start + i) 0) n)) h k (numbers_part u start n (omega arith))
 
--- as a part is put back that was lent and cleared
-pub zeros_put : (t : List ℕ) (from to : ℕ) → from ≤ to → to ≤ length t → (ys : List ℕ) → ys ≡ filled (length (take (to - from) (drop from t))) []
-    → take from t ++ (ys ++ drop (to - from) (drop from t)) ≡ zeros from to t
-zeros_put t from to h k ys e =
-    let l : to - from ≤ length (drop from t) = rw length-drop (omega arith) in
+-- as a part is put back that was lent and filled with zeros
+zeros_put : (t : List ℕ) (from to : ℕ) → from ≤ to → (ys : List ℕ) → ys ≡ replicate (to - from) 0 → put_mid from (to - from) t ys ≡ zeros from to t
+zeros_put t from to h ys e =
     let m : from + (to - from) ≡ to = omega arith in
-    ap₂ (λ xs zs. take from t ++ (xs ++ zs)) (e ∙ sym (filled_none (length (take (to - from) (drop from t)))) ∙ ap (λ i. replicate i 0) (length-take-le (to - from) (drop from t) l))
-    (drop-drop (to - from) from t ∙ ap (λ i. drop i t) m)
-    ∙ sym (append_assoc (take from t) (replicate (to - from) 0) (drop to t))
+    ap₂ (λ xs zs. take from t ++ (xs ++ zs)) e (drop-drop (to - from) from t ∙ ap (λ i. drop i t) m) ∙ sym (append_assoc (take from t) (replicate (to - from) 0) (drop to t))
 
 header_is : (t : List ℕ) → first_of (λ i. get_or t (0 + i) 0) 6 ≡ header_cells (people t) (held t)
 unfolding held header_cells first_of
@@ -155,21 +150,34 @@ header_is t =
       first_of-length (cell_in t) (get_or t 5 0),
     )
 
+-- what is held lies within its sections
+pub sizes_within : (t : List ℕ) → Sizes (people t) (held t)
+    → (cells_from + get_or t 5 0 ≤ table_long) × (listed_from + get_or t 4 0 ≤ cells_from) × (defs_from + def_wide * get_or t 1 0 ≤ listed_from)
+    × (branches_from + branch_wide * get_or t 3 0 ≤ defs_from) × (nodes_from + node_wide * get_or t 2 0 ≤ branches_from)
+sizes_within t z = let c = sizes-within t z in (omega (arith, c.cells), omega (arith, c.listed), omega (arith, c.defs), omega (arith, c.branches), omega (arith, c.nodes))
+
+-- a part of v, from one place to another, put back as ys
+abbrev put_back : ℕ → ℕ → List ℕ → List ℕ → List ℕ
+put_back from to ys v = put_mid from (to - from) v ys
+
 -- a table u that was read, with zeros behind each of its sections from the last to the first, is the table of what it holds
 module _ (u : List ℕ) (long : table_long ≤ length u) (z : Sizes (people u) (held u)) where
-  pub cleared_is : (v₁ v₂ v₃ v₄ v₅ v₆ : List ℕ) → v₁ ≡ zeros (cells_from + get_or u 5 0) (length u) u → v₂ ≡ zeros (listed_from + get_or u 4 0) cells_from v₁
-      → v₃ ≡ zeros (defs_from + def_wide * get_or u 1 0) listed_from v₂ → v₄ ≡ zeros (branches_from + branch_wide * get_or u 3 0) defs_from v₃ → v₅ ≡ zeros (nodes_from + node_wide * get_or u 2 0) branches_from v₄
-      → v₆ ≡ zeros 6 nodes_from v₅ → v₆ ≡ table_of (length u) (people u) (held u)
+  pub cleared_is : (y₁ y₂ y₃ y₄ y₅ y₆ : List ℕ)
+      → y₁ ≡ replicate (length u - (cells_from + get_or u 5 0)) 0 → y₂ ≡ replicate (cells_from - (listed_from + get_or u 4 0)) 0 → y₃ ≡ replicate (listed_from - (defs_from + def_wide * get_or u 1 0)) 0
+      → y₄ ≡ replicate (defs_from - (branches_from + branch_wide * get_or u 3 0)) 0 → y₅ ≡ replicate (branches_from - (nodes_from + node_wide * get_or u 2 0)) 0 → y₆ ≡ replicate (nodes_from - 6) 0
+      → put_back 6 nodes_from y₆ (put_back (nodes_from + node_wide * get_or u 2 0) branches_from y₅ (put_back (branches_from + branch_wide * get_or u 3 0) defs_from y₄
+      (put_back (defs_from + def_wide * get_or u 1 0) listed_from y₃ (put_back (listed_from + get_or u 4 0) cells_from y₂ (put_back (cells_from + get_or u 5 0) (length u) y₁ u)))))
+      ≡ table_of (length u) (people u) (held u)
   unfolding held
-  cleared_is v₁ v₂ v₃ v₄ v₅ v₆ w₁ w₂ w₃ w₄ w₅ w₆ =
-      let c = sizes-within u z in
+  cleared_is y₁ y₂ y₃ y₄ y₅ y₆ w₁ w₂ w₃ w₄ w₅ w₆ =
+      let c = sizes_within u z in
       let e₀ = sym (append-nil (take (length u) u) ∙ take-length u) in
-      let e₁ = w₁ ∙ numbers_zeros u u [] cells_from (get_or u 5 0) (length u) e₀ (omega (arith, c.cells)) (omega arith) in
-      let e₂ = w₂ ∙ numbers_zeros u v₁ _ listed_from (get_or u 4 0) cells_from e₁ (omega (arith, c.listed)) (omega arith) in
-      let e₃ = w₃ ∙ section_zeros defs_section u v₂ _ (get_or u 1 0) listed_from e₂ (omega (arith, c.defs)) (omega arith) in
-      let e₄ = w₄ ∙ section_zeros branches_section u v₃ _ (get_or u 3 0) defs_from e₃ (omega (arith, c.branches)) (omega arith) in
-      let e₅ = w₅ ∙ section_zeros nodes_section u v₄ _ (get_or u 2 0) branches_from e₄ (omega (arith, c.nodes)) (omega arith) in
-      let e₆ = w₆ ∙ numbers_zeros u v₅ _ 0 6 nodes_from e₅ (omega arith) (omega arith) in
+      let e₁ = zeros_put u (cells_from + get_or u 5 0) (length u) (omega arith) y₁ w₁ ∙ numbers_zeros u u [] cells_from (get_or u 5 0) (length u) e₀ (omega arith) (omega arith) in
+      let e₂ = zeros_put _ _ _ c.1 y₂ w₂ ∙ numbers_zeros u _ _ listed_from (get_or u 4 0) cells_from e₁ c.1 (omega arith) in
+      let e₃ = zeros_put _ _ _ c.2 y₃ w₃ ∙ section_zeros defs_section u _ _ (get_or u 1 0) listed_from e₂ c.2 (omega arith) in
+      let e₄ = zeros_put _ _ _ c.3 y₄ w₄ ∙ section_zeros branches_section u _ _ (get_or u 3 0) defs_from e₃ c.3 (omega arith) in
+      let e₅ = zeros_put _ _ _ c.4 y₅ w₅ ∙ section_zeros nodes_section u _ _ (get_or u 2 0) branches_from e₄ c.4 (omega arith) in
+      let e₆ = zeros_put _ 6 nodes_from (omega arith) y₆ w₆ ∙ numbers_zeros u _ _ 0 6 nodes_from e₅ (omega arith) (omega arith) in
       e₆ ∙ ap (λ xs. padded nodes_from xs ++ behind_header (length u) (held u)) (header_is u) ∙ sym (table_is (people u) (held u) z (length u) long)
 
 -- ---- what stands where in a table

@@ -85,11 +85,3 @@ or_else_assoc f g h = go (eqb f.number 0) refl
 pub order_then : (R : List Row) (f : bitml.Fault) → or_else (repeated 1 [] R) (or_else (falling 1 0 R) f) ≡ or_else (order_fault R) f
 unfolding order_fault
 order_then R f = sym (or_else_assoc (repeated 1 [] R) (falling 1 0 R) f)
-
--- where the order is at fault there is one
-pub some-fault : (f : bitml.Fault) (i : ℕ) → (or_else f (fall_at i)).number ≡ 0 → ⊥
-some-fault f i = go (eqb f.number 0) refl
-  where
-    go : (b : Bool) → eqb f.number 0 ≡ b → (cond b (fall_at i) f).number ≡ 0 → ⊥
-    go true e z = let y : ◌≡◌ {A = ℕ} 21 0 = z in omega arith
-    go false e z = eqb-false _ _ e z

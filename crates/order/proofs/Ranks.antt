@@ -5,7 +5,7 @@ use native.Mathlib.Omega.{arith}
 use mathlib.Core.Bool.{Bool, true, false, not, cond}
 use mathlib.Core.List.{List, [], ◌∷◌, ◌++◌}
 use lib.ListN.{length, get_or, set, drop, replicate, length-set, length-replicate, drop_of_length-le}
-use lib.Seq.{drop-cons}
+use Rattle.std.proofs.lemmas.List.{drop_more}
 use lib.Dec.{eqb}
 use borrow.Author.Tests.{eq-eqb, ne_eqb, eqb-false}
 use Rattle.bitml.specs.Lists.{◌or◌, All, nil, cons}
@@ -20,10 +20,7 @@ use Rattle.buffer.proofs.Buffer.{rows_none, rows_next, rows-length}
 use Rattle.requests.specs.Rows.{most_rank}
 use Rattle.order.specs.Nodes.{RowsSmall, Known, has_by}
 
--- ---- a list from an index on
-
-pub drop-one : {A : Type 0} (xs : List A) (i : ℕ) (d : A) → i < length xs → drop i xs ≡ get_or xs i d ∷ drop (i + 1) xs
-drop-one xs i d h = drop-cons xs i d h ∙ ap (λ k. get_or xs i d ∷ drop k xs) (let z : suc i ≡ i + 1 = omega arith in z)
+-- ---- the rows from a place on
 
 module _ (u : List ℕ) where
   row_at : (n i : ℕ) → i < n → get_or (rows_of n u) i (row 0 0 0) ≡ row_in u i
@@ -32,7 +29,7 @@ module _ (u : List ℕ) where
 
   pub rows_from_lem : (n i : ℕ) → i < n → drop i (rows_of n u) ≡ row_in u i ∷ drop (i + 1) (rows_of n u)
   rows_from_lem n i h =
-      drop-one (rows_of n u) i (row 0 0 0) (omega (arith, rows-length n u)) ∙ ap (λ r. r ∷ drop (i + 1) (rows_of n u)) (row_at n i h)
+      drop_more (rows_of n u) i (row 0 0 0) (omega (arith, rows-length n u)) ∙ ap (λ r. r ∷ drop (i + 1) (rows_of n u)) (row_at n i h)
 
   pub rows_end : (n i : ℕ) → n ≤ i → drop i (rows_of n u) ≡ []
   rows_end n i h = drop_of_length-le (rows_of n u) {i = i} (omega (arith, rows-length n u))

@@ -1,11 +1,12 @@
 -- The nodes of rows as given, in a buffer of numbers, and the array of their ranks. Assumes nothing.
-use Rattle.std.specs.Prelude.{◌≡◌, ℕ, ◌*◌, ◌≤◌, ◌<◌, Bool, not, List, [], length, get_or, eqb}
+use Rattle.std.specs.Prelude.{◌≡◌, ℕ, ◌*◌, ◌≤◌, ◌<◌, Bool, not, List, [], length, get_or, eqb, Result, Ok, Err}
 use Rattle.bitml.specs.Lists.{All}
 use Rattle.bitml.specs.Rows as bitml
 use Rattle.bitml.specs.Rows.{Row, rank_of, or_else, repeated, falling}
 use Rattle.tables.specs.Entries.{most_nodes}
 use Rattle.buffer.specs.Buffer.{row_wide, row_in}
 use Rattle.requests.specs.Rows.{most_rank, most_rows}
+use Rattle.refusals.specs.Numbers.{number}
 use Rattle.order.specs.declared.Fault.{Fault}
 
 -- What the reader promises of n rows, by no table: their nodes are within the array, and no rank is 0
@@ -30,7 +31,12 @@ has_by A m = not (eqb (get_or A m 0) 0)
 -- ---- the answer
 
 abbrev pub as_fault : Fault → bitml.Fault
-as_fault f = record { number = f.number; place = f.place }
+as_fault f = record { number = number f.refusal; place = f.place }
+
+-- 0 where there is none
+abbrev pub fault_told : {A : Type 0} → Result A Fault → bitml.Fault
+fault_told (Ok x) = record { number = 0; place = 0 }
+fault_told (Err f) = as_fault f
 
 -- "21 when a row's node is below that of the row before it": the row in place i
 abbrev pub fall_at : ℕ → bitml.Fault

@@ -2,23 +2,19 @@
 
 #![tactic(auto)]
 
-ghost use Rattle.std.specs.Prelude.{◌≡◌, [], ◌+◌, ◌<◌, drop};
+ghost use Rattle.std.specs.Prelude.{◌≡◌, [], ◌+◌, ◌<◌, drop, OnOk};
 ghost use Rattle.bitml.specs.Rows.{repeated, or_else};
 ghost use Rattle.buffer.specs.Buffer.{rows_of};
-ghost use Rattle.order.specs.Nodes.{RowsSmall, Known, as_fault, fall_at, order_fault};
+ghost use Rattle.order.specs.Nodes.{RowsSmall, Known, as_fault, fault_told, fall_at, order_fault};
 
-use buffer::{row_node, row_rank};
+use buffer::row_at;
+use refusals::Refusal;
 use tables::Sheet;
 
-// The numbers of the refusals: the node has a row already, the node is below that of the row before.
-const REPEATED: usize = 10;
-
-const OUT_OF_ORDER: usize = 21;
-
-// A refusal's number and its row's place, from 1, or 0 for the line of `check`. The number 0 is for none.
-#[derive(Clone, Copy)]
+// A refusal and its row's place, from 1, or 0 for the line of `check`.
+#[derive(Clone, Copy, PartialEq, Eq)]
 pub struct Fault {
-    pub number: usize,
+    pub refusal: Refusal,
     pub place: usize,
 }
 
@@ -30,45 +26,38 @@ fn unordered(rows: &[usize], n: usize, from: usize, ranks: &mut [usize; Sheet::N
     requires known { Known (rows_of from rows.now) ranks.old }
     ensures { as_fault result ≡ or_else (repeated (from + 1) (rows_of from rows.now) (drop from (rows_of n rows.now))) (fall_at (from + 1)) }
 {
-    let mut j = from;
-    while j < n {
-        let m = row_node(rows, j);
-        if ranks[m] != 0 {
+    for j in from..n {
+        let row = row_at(rows, j);
+        if ranks[row.node] != 0 {
             return Fault {
-                number: REPEATED,
+                refusal: Refusal::SecondRow,
                 place: j + 1,
             };
         }
-        ranks[m] = row_rank(rows, j);
-        j += 1;
+        ranks[row.node] = row.rank;
     }
     Fault {
-        number: OUT_OF_ORDER,
+        refusal: Refusal::OutOfOrder,
         place: from + 1,
     }
 }
 
 // The first fault of the rows' nodes: two of one, else their order. Where there is none, the array has the ranks by node. A node above
-// all before it has no row yet, so that rows in order are not looked up.
-pub fn index(rows: &[usize], n: usize, ranks: &mut [usize; Sheet::NODES]) -> Fault
+// all before it has no row yet, so that rows in order are not looked up. The buffer is the caller's, with more places than rows: n of them count.
+pub fn index(rows: &[usize], n: usize, ranks: &mut [usize; Sheet::NODES]) -> Result<(), Fault>
     requires rows_small { RowsSmall rows.now n }
     requires known { Known [] ranks.old }
-    ensures result_value { as_fault result ≡ order_fault (rows_of n rows.now) }
-    ensures known_2 { result.number ≡ 0 → Known (rows_of n rows.now) ranks.new }
+    ensures value { fault_told result ≡ order_fault (rows_of n rows.now) }
+    ensures ranks_known { OnOk result (Known (rows_of n rows.now) ranks.new) }
 {
     let mut above = 0;
-    let mut i = 0;
-    while i < n {
-        let m = row_node(rows, i);
-        if m < above {
-            return unordered(rows, n, i, ranks);
+    for i in 0..n {
+        let row = row_at(rows, i);
+        if row.node < above {
+            return Err(unordered(rows, n, i, ranks));
         }
-        ranks[m] = row_rank(rows, i);
-        above = m + 1;
-        i += 1;
+        ranks[row.node] = row.rank;
+        above = row.node + 1;
     }
-    Fault {
-        number: 0,
-        place: 0,
-    }
+    Ok(())
 }

@@ -57,15 +57,9 @@ module _ (K : ℕ) (E : Entries) (p : ℕ) where
         go (suc zero) h = refl
         go (suc (suc k)) h = absurd (omega arith)
 
-    pub bar-renewal : Alone b → 2 ≤ (branch_entry_at E b).kind → ((branch_entry_at E b).kind ≡ 2 → ⊥) → bar (sheet_of K E) p n (branch_of E b) ≡ 4
+    pub bar-renewal : Alone b → (branch_entry_at E b).kind ≡ 3 → bar (sheet_of K E) p n (branch_of E b) ≡ 4
     unfolding action_of failing ask counts_always ◌&◌
-    bar-renewal a h f = bar-kind (branch_entry_at E b).kind a refl ∙ go (branch_entry_at E b).kind h f
-      where
-        go : (k : ℕ) → 2 ≤ k → (k ≡ 2 → ⊥) → barred (node_at (sheet_of K E) n).definition (action_of E b k) ≡ 4
-        go zero h f = absurd (omega arith)
-        go (suc zero) h f = absurd (omega arith)
-        go (suc (suc zero)) h f = absurd (f refl)
-        go (suc (suc (suc k))) h f = refl
+    bar-renewal a e = bar-kind 3 a e
 
     module _ (h : n < length E.nodes) (a : Alone b) (e : (branch_entry_at E b).kind ≡ 2) where
       reveal-is : bar (sheet_of K E) p n (branch_of E b)

@@ -9,83 +9,82 @@ ghost use Rattle.bitml.specs.Runs.{own};
 ghost use Rattle.bitml.specs.Why.{bar};
 ghost use Rattle.tables.specs.Entries.{held, people};
 ghost use Rattle.tables.specs.SheetOf.{listed_at, branch_of, sheet_in};
-ghost use Rattle.sheets.specs.Ready.{Ready};
+ghost use Rattle.owning.specs.Causes.{number, told};
 
-use sheets::{
-    branch_cond, branch_first, branch_kind, branch_secrets, branch_signers, def_owner, def_secrets,
-    listed_at, node_definition,
-};
-use tables::{Action, mask_of};
+use sheets::Table;
+use tables::{Kind, mask_of};
 use truth::counts_always;
 
-// The causes that keep a branch from being own: another must sign, a secret is another's, the condition doesn't count as `t`, a renewal.
-const SIGNER: usize = 1;
-
-const SECRET: usize = 2;
-
-const CONDITION: usize = 3;
-
-const RENEWAL: usize = 4;
-
-// p owns all the secrets of definition d that are listed from first on.
-fn owns_all(t: &[usize], p: usize, d: usize, first: usize, count: usize) -> bool
-    requires ready { Ready t.now }
-    requires d_in_bounds { (d < length (held t.now).defs) × (first + count ≤ length (held t.now).listed) }
-    ensures { result ≡ every (owns (sheet_in t.now) p d) (map (listed_at (held t.now)) (up_from first count)) }
-{
-    let secrets = def_secrets(t, d);
-    let mut i = 0;
-    while i < count {
-        let j = listed_at(t, first + i);
-        if secrets <= j {
-            return false;
-        }
-        if def_owner(t, d, j) != p {
-            return false;
-        }
-        i += 1;
-    }
-    true
+// Why a branch has no exit. All but the last keep it from being own.
+#[derive(Clone, Copy, PartialEq, Eq)]
+pub enum Cause {
+    // Another must sign.
+    Signer = 1,
+    // A secret is another's.
+    Secret = 2,
+    // The condition does not count as `t`.
+    Condition = 3,
+    // It is a renewal.
+    Renewal = 4,
+    // A contract in it lacks an exit.
+    Contract = 5,
 }
 
-// What keeps branch b, one of node n, from being own to p; 0 where it is own. The condition is asked last: an `r` lists a secret, and a
-// secret has one owner, so that of all participants one at the most comes to it.
-pub fn bar(t: &[usize], p: usize, n: usize, b: usize) -> usize
-    requires ready { Ready t.now }
-    requires p_bound { (p < people t.now) × (n < length (held t.now).nodes) × (b < length (held t.now).branches) }
-    ensures { result ≡ bar (sheet_in t.now) p n (branch_of (held t.now) b) }
+impl Cause {
+    // The number that is printed.
+    pub fn number(self) -> usize
+        ensures { result ≡ number self }
+    {
+        self as usize
+    }
+}
+
+// Definition d has a secret j, and p owns it.
+fn owns(table: Table, p: usize, d: usize, j: usize) -> bool
+    requires d_in_bounds { d < length (held table.cells.now).defs }
+    ensures { result ≡ owns (sheet_in table.entry.cells.now) p d j }
 {
-    let signers = branch_signers(t, b);
-    if signers != 0 {
-        if signers != mask_of(p) {
-            return SIGNER;
+    j < table.definition(d).secrets && table.owner(d, j) == p
+}
+
+// p owns all the secrets of definition d that are listed from first on.
+fn owns_all(table: Table, p: usize, d: usize, first: usize, count: usize) -> bool
+    requires d_in_bounds { (d < length (held table.cells.now).defs) × (first + count ≤ length (held table.cells.now).listed) }
+    ensures { result ≡ every (owns (sheet_in table.entry.cells.now) p d) (map (listed_at (held table.entry.cells.now)) (up_from first count)) }
+{
+    (first..first + count).all(|i| owns(table, p, d, table.listed_at(i)))
+}
+
+// What keeps branch b, one of node n, from being own to p. The condition is asked last: an `r` lists a secret, and a secret has one owner, so
+// that of all participants one at the most comes to it.
+pub fn bar(table: Table, p: usize, n: usize, b: usize) -> Option<Cause>
+    requires p_bound { (p < people table.cells.now) × (n < length (held table.cells.now).nodes) × (b < length (held table.cells.now).branches) }
+    ensures { told result ≡ bar (sheet_in table.entry.cells.now) p n (branch_of (held table.entry.cells.now) b) }
+{
+    let branch = table.branch(b);
+    if branch.signers != 0 && branch.signers != mask_of(p) {
+        return Some(Cause::Signer);
+    }
+    match branch.kind {
+        Kind::Withdraw | Kind::Split => None,
+        Kind::Reveal => {
+            let d = table.node(n).definition;
+            if !owns_all(table, p, d, branch.first, branch.count) {
+                return Some(Cause::Secret);
+            }
+            if !counts_always(table, branch.cond) {
+                return Some(Cause::Condition);
+            }
+            None
         }
+        Kind::Renew => Some(Cause::Renewal),
     }
-    let kind = branch_kind(t, b);
-    if kind < Action::REVEAL {
-        return 0;
-    }
-    if kind != Action::REVEAL {
-        return RENEWAL;
-    }
-    let d = node_definition(t, n);
-    let first = branch_first(t, b);
-    let count = branch_secrets(t, b);
-    if !owns_all(t, p, d, first, count) {
-        return SECRET;
-    }
-    let c = branch_cond(t, b);
-    if !counts_always(t, c) {
-        return CONDITION;
-    }
-    0
 }
 
 // Branch b, one of node n, is own to p.
-pub fn own(t: &[usize], p: usize, n: usize, b: usize) -> bool
-    requires ready { Ready t.now }
-    requires p_bound { (p < people t.now) × (n < length (held t.now).nodes) × (b < length (held t.now).branches) }
-    ensures { result ≡ own (sheet_in t.now) p n (branch_of (held t.now) b) }
+pub fn own(table: Table, p: usize, n: usize, b: usize) -> bool
+    requires p_bound { (p < people table.cells.now) × (n < length (held table.cells.now).nodes) × (b < length (held table.cells.now).branches) }
+    ensures { result ≡ own (sheet_in table.entry.cells.now) p n (branch_of (held table.entry.cells.now) b) }
 {
-    bar(t, p, n, b) == 0
+    bar(table, p, n, b).is_none()
 }

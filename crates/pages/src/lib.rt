@@ -1,4 +1,5 @@
 // The ledger's cells: one slice of numbers in sections, lent to the ledger for a run. The contracts speak of the lists that the sections hold.
+// A function for each section, since its contract says which list it reads or writes. Functions over a slice: a struct that held it with its length would be two, for `&[usize]` to read and `&mut [usize]` to write, and callers lend plain slices.
 
 #![tactic(auto)]
 

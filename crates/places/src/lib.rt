@@ -2,9 +2,9 @@
 
 #![tactic(auto)]
 
-ghost use Rattle.std.specs.Prelude.{◌≡◌, ◌+◌, ◌≤◌, ◌<◌, ◌^◌, length};
+ghost use Rattle.std.specs.Prelude.{count_by, ◌==◌, ◌≡◌, ◌+◌, ◌≤◌, ◌<◌, ◌^◌, length};
 ghost use Rattle.places.specs.Places.{place_of, passing_of};
-ghost use Rattle.places.specs.Counting.{same_of, count_of, start_of, field_in};
+ghost use Rattle.places.specs.Counting.{start_of, field_in};
 
 const COMMA: u8 = b',';
 
@@ -17,79 +17,49 @@ pub struct Place {
     pub field: usize,
 }
 
-// 1 for a byte that is b, 0 for any other.
-fn same(x: u8, b: u8) -> u32
-    ensures { (result ≡ same_of x b) × (result ≤ 1) }
+// How many of some bytes are b. A sum of 32 bits counts more at once: with `filter(..).count()` a place takes 7 times the instructions.
+fn count(s: &[u8], b: u8) -> usize
+    requires { length s.now ≤ 65536 }
+    ensures value { result ≡ count_by (λ x. x == b) s.now }
+    ensures upper_bound { result < 2 ^ 32 }
 {
-    if x == b {
+    let n: u32 = s.iter().map(|x| u32::from(*x == b)).sum();
+    n as usize
+}
+
+// Where the last line of some bytes starts.
+fn line_start(s: &[u8]) -> usize
+    ensures { (result ≡ start_of s.now (length s.now)) × (result ≤ length s.now) }
+{
+    match s.iter().rposition(|x| *x == LF) {
+        Some(i) => i + 1,
+        None => 0,
+    }
+}
+
+// The field that is due behind some bytes of a line.
+fn field_in(line: &[u8]) -> usize
+    requires { length line.now ≤ 65536 }
+    ensures { result ≡ field_in line.now 0 (length line.now) }
+{
+    if line.is_empty() {
         return 1;
     }
-    0
+    2 + count(line, COMMA)
 }
 
-// How many of the n bytes from a position on are b. In 32 bits, more of them are counted at once.
-fn count(s: &[u8], from: usize, n: usize, b: u8) -> usize
-    requires { (from + n ≤ length s.now) × (length s.now ≤ 65536) }
-    ensures { (result ≡ count_of b s.now from n) × (result ≤ n) }
-{
-    let mut c: u32 = 0;
-    let mut i: usize = 0;
-    while i < n {
-        c += same(s[from + i], b);
-        i += 1;
-    }
-    c as usize
-}
-
-// Where the line of a position starts.
-fn line_start(s: &[u8], at: usize) -> usize
-    requires { at ≤ length s.now }
-    ensures { (result ≡ start_of s.now at) × (result ≤ at) }
-{
-    let mut i = at;
-    while 0 < i {
-        let j = i - 1;
-        if s[j] == LF {
-            return i;
-        }
-        i = j;
-    }
-    0
-}
-
-// The field that is due n bytes behind the start of their line.
-fn field_in(s: &[u8], start: usize, n: usize) -> usize
-    requires { (start + n ≤ length s.now) × (length s.now ≤ 65536) }
-    ensures { result ≡ field_in s.now start n }
-{
-    if n == 0 {
-        return 1;
-    }
-    let commas = count(s, start, n, COMMA);
-    2 + commas
-}
-
-// The place of a position within the request.
-fn place_at(s: &[u8], at: usize) -> Place
-    requires { (at ≤ length s.now) × (length s.now ≤ 65536) }
-    ensures { result ≡ place_of s.now at }
-{
-    let start = line_start(s, at);
-    let line = 1 + count(s, 0, at, LF);
-    let field = field_in(s, start, at - start);
-    Place { line, field }
-}
-
-// The place of a position: its line, and the number of the field that is due there. Past the end it is the end's.
+// The place of a position: its line, and the number of the field that is due there. Past the end it is the end's. That a request is not too long
+// stands in the contracts: a type for it would be taken apart wherever a field is read, which asks nothing of its length.
 pub fn place_of(s: &[u8], at: usize) -> Place
     requires { length s.now ≤ 65536 }
     ensures { result ≡ place_of s.now at }
 {
-    if s.len() < at {
-        let n = s.len();
-        return place_at(s, n);
+    let before = &s[..at.min(s.len())];
+    let start = line_start(before);
+    Place {
+        line: 1 + count(before, LF),
+        field: field_in(&before[start..]),
     }
-    place_at(s, at)
 }
 
 // The position before the last field that starts within the first n bytes: the comma before it, or the byte behind an LF. It is near the
@@ -98,15 +68,8 @@ pub fn passing(s: &[u8], n: usize) -> usize
     requires { (n ≤ length s.now) × (n < 2 ^ 63) }
     ensures { result ≡ passing_of s.now n }
 {
-    let mut i = n;
-    while 0 < i {
-        let j = i - 1;
-        let b = s[j];
-        match b {
-            COMMA => return j,
-            LF => return i,
-            _ => i = j,
-        }
-    }
-    0
+    let Some(i) = s[..n].iter().rposition(|x| matches!(*x, COMMA | LF)) else {
+        return 0;
+    };
+    if s[i] == LF { i + 1 } else { i }
 }

@@ -8,13 +8,13 @@ use lib.ListN.{length}
 use lib.Dec.{ltb}
 use borrow.Author.Tests.{lt-ltb, le-ltb}
 use Rattle.fields.specs.Field.{when_read}
-use Rattle.fields.specs.declared.Got.{Got}
-use Rattle.fields.specs.declared.Got.TheVariants.{Value, Bad}
+use Rattle.fields.specs.Field.{Got}
+use Rattle.fields.specs.Field.{Value, Bad}
 use Rattle.fields.proofs.Words.{Bytes}
 use Rattle.events.specs.Events.{event_at, next_of, events_at}
-use Rattle.events.specs.declared.Event.{Event}
-use Rattle.events.specs.declared.Event.TheVariants as line
-use Rattle.events.specs.declared.Lines.TheVariants as lines
+use Rattle.events.specs.Event.{Event}
+use Rattle.events.specs.Event as line
+use Rattle.events.specs.Lines as lines
 use Rattle.events.proofs.Sound.{event_ahead, event_long, events-on, events-bad}
 use Rattle.plays.specs.Events.{event_of, events_up_to, events_of}
 

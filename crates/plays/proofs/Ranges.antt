@@ -5,11 +5,11 @@ use mathlib.Core.List.{List, []}
 use lib.ListN.{length}
 use lib.Dec.{ltb}
 use Rattle.bitml.specs.Lists.{All, nil, cons}
-use Rattle.fields.specs.declared.Got.TheVariants.{Value}
+use Rattle.fields.specs.Field.{Value}
 use Rattle.fields.proofs.Ranges.{when_read-cases, cond_cases, never}
 use Rattle.events.specs.Events.{event_at, next_of}
-use Rattle.events.specs.declared.Event.{Event}
-use Rattle.events.specs.declared.Event.TheVariants as line
+use Rattle.events.specs.Event.{Event}
+use Rattle.events.specs.Event as line
 use Rattle.events.proofs.Sound.{Sound, event_sound}
 use Rattle.promises.specs.Refusals.{InRange}
 use Rattle.plays.specs.Events.{event_of, events_up_to, events_of}

@@ -9,17 +9,13 @@ use Rattle.bitml.specs.Limits.{limited_refusal}
 use Rattle.bitml.specs.Answers.{end_line, event_line, end_of}
 use Rattle.sheets.specs.Ready.{Ready}
 use Rattle.counts.proofs.Ending.{end_is}
-use Rattle.fields.specs.declared.Got.{Got}
-use Rattle.fields.specs.declared.Got.TheVariants.{Value, Bad}
-use Rattle.fields.proofs.Ranges.{never}
+use Rattle.fields.specs.Field.{Value}
 use Rattle.fields.proofs.Words.{Bytes}
 use Rattle.tables.specs.Entries.{first_of, people}
 use Rattle.tables.specs.SheetOf.{sheet_in}
-use Rattle.events.specs.Events.{most_wait, most_values, next_of, event_at, events_at}
-use Rattle.events.specs.declared.Event as read
-use Rattle.events.specs.declared.Event.TheVariants as line
-use Rattle.events.specs.declared.Lines.TheVariants as lines
-use Rattle.events.proofs.Sound.{Sound, event_sound}
+use Rattle.events.specs.Events.{next_of, event_at, events_at}
+use Rattle.events.specs.Event as read
+use Rattle.events.specs.Lines as lines
 use Rattle.pages.specs.Pages.{cells_long, size, start, pages_in, lives, payments}
 use Rattle.pages.proofs.Laws.{page_first}
 use Rattle.counts.specs.declared.Counts.{Counts}
@@ -31,49 +27,13 @@ use Rattle.texts.specs.Text.{line_text}
 use Rattle.texts.specs.Wrote.{Wrote}
 use Rattle.texts.proofs.Coming.{Coming, coming_all}
 use Rattle.plays.specs.Events.{event_of, events_of}
-use Rattle.plays.proofs.Events.{events-none, next-read, event_read, events-more, events_good, line-within, line-long}
+use Rattle.plays.proofs.Events.{events-none, events-more, events_good, line-within, line-long}
 use Rattle.plays.proofs.Playing.{answer-most, play_text, coming_more, coming_end}
-
--- ---- an event line
-
--- x is the event line that starts at `at`, and this line and those behind it can be read
-pub record EventLine (s : List ℕ) (people at : ℕ) (x : read.Event) : Type 0 where
-  pub more : at < length s
-  pub good : events_at s people at ≡ lines.Good
-  pub read : x ≡ event_at s people at
-
-module _ (s : List ℕ) (people at : ℕ) (x : read.Event) (l : EventLine s people at x) where
-  sound : (y : read.Event) → x ≡ y → Sound s people at y
-  sound y h = subst (Sound s people at) (sym l.read ∙ h) (event_sound s people at)
-
-  pub wait-range : (d e : ℕ) → x ≡ line.Wait d e → (1 ≤ d) × (d ≤ most_wait)
-  unfolding Sound
-  wait-range d e h = let k = sound (line.Wait d e) h in (k.0, k.1)
-
-  pub sign-range : (p c b e : ℕ) → x ≡ line.Sign p c b e → p < people
-  unfolding Sound
-  sign-range p c b e h = (sound (line.Sign p c b e) h).0
-
-  pub renew-range : (c b f n e : ℕ) → x ≡ line.Renew c b f n e → n ≤ most_values
-  unfolding Sound
-  renew-range c b f n e h = (sound (line.Renew c b f n e) h).2
-
-  pub no_event : {Q : Type 0} (n p : ℕ) → x ≡ line.Bad n p → Q
-  no_event n p h = absurd (event_read s people at l.more l.good x l.read n p h)
 
 -- the event x has made of the ledger l the ledger m, and its line ends at q
 pub record Moved (s t : List ℕ) (l : Book) (x : read.Event) (m : Book) (q : ℕ) : Type 0 where
   pub does : Does t l (event_of s x) m
-  pub next : (w z : ℕ) → next_of x ≡ Value w z → q ≡ z
-
-zero-first : (x : read.Event) (w z : ℕ) → next_of x ≡ Value w z → next_of x ≡ Value 0 z
-unfolding next_of
-zero-first (line.Wait d e) w z h = let k : e ≡ z = cc in ap (Value 0) k
-zero-first (line.Sign p c b e) w z h = let k : e ≡ z = cc in ap (Value 0) k
-zero-first (line.Tell i j e) w z h = let k : e ≡ z = cc in ap (Value 0) k
-zero-first (line.Fire c b e) w z h = let k : e ≡ z = cc in ap (Value 0) k
-zero-first (line.Renew c b f n e) w z h = let k : e ≡ z = cc in ap (Value 0) k
-zero-first (line.Bad n p) w z h = never n p w z h
+  pub next : next_of x ≡ Value 0 q
 
 -- ---- the events so far: the ledger l₀ has become l, and of the request the lines from `at` on are left; the text ends at e
 
@@ -111,14 +71,6 @@ module _ (s t : List ℕ) (from first : ℕ) (text₀ : List ℕ) (l₀ : Book) 
         w
 
     module _ (more : at < length s) (x : read.Event) (rd : x ≡ event_at s (people t) at) where
-      -- the line's end: what `next` says of a line that can be read
-      behind-is : (q : ℕ) → ((w z : ℕ) → next_of x ≡ Value w z → q ≡ z) → next_of x ≡ Value 0 q
-      behind-is q f = go (next_of x) refl
-        where
-          go : (y : Got) → next_of x ≡ y → next_of x ≡ Value 0 q
-          go (Value w z) h = let k = f w z h in zero-first x w z h ∙ ap (Value 0) (sym k)
-          go (Bad n p) h = absurd (next-read s (people t) at more g.good x rd n p h)
-
       module _ (m : Book) (q : ℕ) (mv : Moved s t l x m q) where
         pub goes_more : Bytes s → length s ≤ 65536 → first ≤ 100 → (v : List ℕ) (c : ℕ)
             → Wrote text e (line_text (event_line line m.answer)) v c → Goes s t from first text₀ l₀ v m q (line + 1) c
@@ -127,7 +79,7 @@ module _ (s t : List ℕ) (from first : ℕ) (text₀ : List ℕ) (l₀ : Book) 
             let S = sheet_in t in
             let P = view (people t) l in
             let y = event_of s x in
-            let z = behind-is q mv.next in
+            let z = mv.next in
             let k = line-within s (people t) at more g.good x rd 0 q z in
             let j = line-long s (people t) at more g.good x rd 0 q z b in
             let w' : Wrote text e (line_text (event_line line (limited_refusal S P y))) v c = subst (λ n. Wrote text e (line_text (event_line line n)) v c) d.answer w in

@@ -3,12 +3,11 @@ use Rattle.std.specs.Prelude.{ℕ, zero, suc, ◌-◌, cond, List, [], ◌∷◌
 use Rattle.bitml.specs.Ledger.{Event, wait, sign, tell, fire, renew}
 use Rattle.fields.specs.Field.{when_read}
 use Rattle.events.specs.Events.{event_at, next_of}
-use Rattle.events.specs.declared.Event as read
-use Rattle.events.specs.declared.Event.TheVariants as line
+use Rattle.events.specs.Event as line
 use Rattle.ledger.specs.Values.{values_of}
 
 -- "`wait`,d"; "`sign`,p,c,b"; "`tell`,i,j"; "`fire`,c,b"; "`renew`,c,b, up to 8 values". A refusal is no event
-unfoldable pub event_of : List ℕ → read.Event → Event
+unfoldable pub event_of : List ℕ → line.Event → Event
 event_of s (line.Wait d e) = wait d
 event_of s (line.Sign p c b e) = sign p c b
 event_of s (line.Tell i j e) = tell i j

@@ -9,8 +9,8 @@ use lib.Dec.{ltb, eqb, lit≤}
 use borrow.Author.Tests.{eqb-true, ltb-false}
 use Rattle.bitml.specs.Rows.{Row}
 use Rattle.fields.specs.Field.{spelled, field_len, text_at, packed_of, end_at, word_from, first_at, line_end_at}
-use Rattle.fields.specs.declared.Got.{Got}
-use Rattle.fields.specs.declared.Got.TheVariants as got
+use Rattle.fields.specs.Field.{Got}
+use Rattle.fields.specs.Field as got
 use Rattle.fields.proofs.Laws.{field_len-le}
 use Rattle.fields.proofs.Ranges.{when_read-cases, cond_cases, never, line-end-next}
 use Rattle.fields.proofs.Words.{Bytes, first-long}
@@ -18,11 +18,11 @@ use Rattle.tables.specs.Entries.{Entries}
 use Rattle.tables.specs.SheetOf.{def_entry_at}
 use Rattle.lines.specs.Sheet.{SheetRead, accepted, read_sheet}
 use Rattle.lines.specs.Sheet.{refused as unread}
-use Rattle.requests.specs.declared.Part.{Part}
-use Rattle.requests.specs.declared.Part.TheVariants as part
+use Rattle.requests.specs.LastPart.{Part}
+use Rattle.requests.specs.LastPart as part
 use Rattle.requests.specs.Part.{participant_at, last_participant_at, past_values_at, make_at, make_all_at, why_at, check_at, play_at, last_part_at}
-use Rattle.events.specs.declared.Lines.{Lines}
-use Rattle.events.specs.declared.Lines.TheVariants as lines
+use Rattle.events.specs.Lines.{Lines}
+use Rattle.events.specs.Lines as lines
 use Rattle.events.specs.Events.{events_at}
 use Rattle.reading.specs.Request.{make, make_all, why, check, play, Reading, request, refused, refused_at, from_rows, from_lines, from_part, from_sheet, read_request}
 

@@ -7,18 +7,18 @@ use lib.ListN.{length, take}
 use lib.Dec.{ltb, eqb}
 use Rattle.bitml.specs.Rows.{Row}
 use Rattle.fields.specs.Field.{comma, lf}
-use Rattle.fields.specs.declared.Got.{Got}
+use Rattle.fields.specs.Field.{Got}
 use Rattle.places.specs.declared.Place.{Place}
 use Rattle.places.specs.Places.{step_of, walk, place_of}
 use Rattle.tables.specs.Entries.{Entries}
 use Rattle.tables.specs.SheetOf.{node_entry_at, def_entry_at}
 use Rattle.lines.specs.Sheet.{SheetRead, accepted, read_sheet}
 use Rattle.lines.specs.Sheet.{refused as unread}
-use Rattle.requests.specs.declared.Part.{Part}
-use Rattle.requests.specs.declared.Part.TheVariants as part
+use Rattle.requests.specs.LastPart.{Part}
+use Rattle.requests.specs.LastPart as part
 use Rattle.requests.specs.Part.{last_part_at}
-use Rattle.events.specs.declared.Lines.{Lines}
-use Rattle.events.specs.declared.Lines.TheVariants as lines
+use Rattle.events.specs.Lines.{Lines}
+use Rattle.events.specs.Lines as lines
 use Rattle.events.specs.Events.{events_at}
 use Rattle.reading.specs.Request.{Reading, request, refused, refused_at, from_rows, from_lines, from_part, from_sheet, read_request}
 use Rattle.promises.specs.Refusals.{ReadNumber, WhileReading, OfReadings}

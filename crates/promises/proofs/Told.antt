@@ -6,8 +6,8 @@ use mathlib.Core.List.{List}
 use lib.Dec.{ltb, leb, eqb}
 use lib.ListN.{length, get_or}
 use borrow.Author.Tests.{leb-true}
-use Rattle.fields.specs.declared.Got.{Got}
-use Rattle.fields.specs.declared.Got.TheVariants.{Value, Bad}
+use Rattle.fields.specs.Field.{Got}
+use Rattle.fields.specs.Field.{Value, Bad}
 use Rattle.fields.specs.Field.{comma, lf, after_comma, up_to, number_of, text_at, end_at, number_at, word_from, word_at, first_at, line_end_at, when_read, any_number, below_at, between_at, Num, Is, Not}
 use Rattle.fields.proofs.Ranges.{cond_cases}
 use Rattle.tables.specs.State.{State}

@@ -8,21 +8,21 @@ use lib.Dec.{ltb, eqb}
 use Rattle.bitml.specs.Rows.{Row}
 use Rattle.buffer.specs.Buffer.{row}
 use Rattle.fields.specs.Field.{comma, spelled}
-use Rattle.fields.specs.declared.Got.TheVariants.{Value, Bad}
-use Rattle.requests.specs.declared.Commitment.{Commitment}
-use Rattle.requests.specs.declared.Commitment.TheVariants as commitment
-use Rattle.requests.specs.declared.Part.{Part}
-use Rattle.requests.specs.declared.Part.TheVariants as part
-use Rattle.requests.specs.declared.RowLine.{RowLine}
-use Rattle.requests.specs.declared.RowLine.TheVariants as line
+use Rattle.fields.specs.Field.{Value, Bad}
+use Rattle.requests.specs.Commitment.{Commitment}
+use Rattle.requests.specs.Commitment as commitment
+use Rattle.requests.specs.LastPart.{Part}
+use Rattle.requests.specs.LastPart as part
+use Rattle.requests.specs.RowLine.{RowLine}
+use Rattle.requests.specs.RowLine as line
 use Rattle.requests.specs.Part.{most_value, value_at, past_of, past_value_at, past_values_at, participant_at, last_participant_at, make_at, make_all_at, why_at, check_at, play_at, last_part_at}
 use Rattle.requests.specs.Rows.{most_rank, most_rows, Rows, rows_with, row_numbers_at, row_at, no_room_at, with_line, rows_from, rows_at}
-use Rattle.events.specs.declared.Event.{Event}
-use Rattle.events.specs.declared.Event.TheVariants as event
-use Rattle.events.specs.declared.Pair.{Pair}
-use Rattle.events.specs.declared.Pair.TheVariants as pair
-use Rattle.events.specs.declared.Lines.{Lines}
-use Rattle.events.specs.declared.Lines.TheVariants as lines
+use Rattle.events.specs.Event.{Event}
+use Rattle.events.specs.Event as event
+use Rattle.events.specs.Pair.{Pair}
+use Rattle.events.specs.Pair as pair
+use Rattle.events.specs.Lines.{Lines}
+use Rattle.events.specs.Lines as lines
 use Rattle.events.specs.Events.{most_wait, most_field, most_values, pair_at, after_pair, last_pair_at, wait_at, sign_at, tell_at, fire_at, values_from, values_at, renew_at, event_at, next_of, events_from, events_at}
 use Rattle.promises.specs.Refusals.{ReadNumber}
 use Rattle.promises.proofs.Told.{due, FieldTold, read, unread, field-bad, read_told, cond-told, number-told, word-told, first-told, line-end-told, below-told, between-told}

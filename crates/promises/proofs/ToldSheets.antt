@@ -10,8 +10,8 @@ use Rattle.steps.specs.Steps.{Outcome}
 use Rattle.conditions.specs.Condition.{store_at, constant_at, clauses_at, secret_at, operands_at, expression_with, expression_in, expression_at, condition_with, condition_in, condition_at}
 use Rattle.contracts.specs.declared.Limits.{Limits}
 use Rattle.contracts.specs.Contract.{ContractReader, hold_at, leaf_at, weighed_at, split_at, list_at, open_at, reveal_at, contract_with, action_at, read_branch, inside_at, read_contract}
-use Rattle.lines.specs.declared.LineOne.{LineOne}
-use Rattle.lines.specs.declared.LineOne.TheVariants as one
+use Rattle.lines.specs.LineOne.{LineOne}
+use Rattle.lines.specs.LineOne as one
 use Rattle.lines.specs.LineOne.{counts_at, line_one_at}
 use Rattle.lines.specs.Definition.{deposits_at, owner_at, root_at, owned_at, define_at, blank}
 use Rattle.lines.specs.Sheet.{SheetRead, accepted, refused, beyond, limited, accept, sizes, sheet_from, read_sheet}

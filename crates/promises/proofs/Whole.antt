@@ -4,17 +4,17 @@ use mathlib.Core.List.{List}
 use Prim.Native.Nat.{ℕ, ◌*◌, ◌≤◌, ◌<◌}
 use lib.ListN.{length}
 use Rattle.bitml.specs.Rows.{Row}
-use Rattle.fields.specs.declared.Got.{Got}
-use Rattle.fields.specs.declared.Got.TheVariants as got
+use Rattle.fields.specs.Field.{Got}
+use Rattle.fields.specs.Field as got
 use Rattle.tables.specs.Entries.{Entries}
 use Rattle.tables.specs.SheetOf.{node_entry_at, def_entry_at}
 use Rattle.lines.specs.Sheet.{SheetRead, accepted, read_sheet}
 use Rattle.lines.specs.Sheet.{refused as unread}
-use Rattle.requests.specs.declared.Part.{Part}
-use Rattle.requests.specs.declared.Part.TheVariants as part
+use Rattle.requests.specs.LastPart.{Part}
+use Rattle.requests.specs.LastPart as part
 use Rattle.requests.proofs.Sound.{PartSound, part_sound, rows_fit}
-use Rattle.events.specs.declared.Lines.{Lines}
-use Rattle.events.specs.declared.Lines.TheVariants as lines
+use Rattle.events.specs.Lines.{Lines}
+use Rattle.events.specs.Lines as lines
 use Rattle.events.specs.Events.{events_at}
 use Rattle.reading.specs.Promises.{Promises}
 use Rattle.reading.specs.Request.{Reading, LastPart, request, refused, refused_at, from_rows, from_lines, from_part, from_sheet, read_request}

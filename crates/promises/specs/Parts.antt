@@ -1,13 +1,13 @@
 -- What is promised of the last part of a request that is read whole. Assumes nothing.
 use Rattle.std.specs.Prelude.{◌≡◌, List, ℕ, ◌-◌, ◌≤◌, ◌<◌, length, get_or}
 use Rattle.bitml.specs.Rows.{Row}
-use Rattle.fields.specs.declared.Got.TheVariants as got
+use Rattle.fields.specs.Field as got
 use Rattle.tables.specs.Entries.{Entries}
 use Rattle.tables.specs.SheetOf.{node_entry_at, def_entry_at}
 use Rattle.buffer.specs.Buffer.{row}
 use Rattle.requests.specs.Part.{past_values_at}
 use Rattle.requests.specs.Rows.{RowFits, most_rows}
-use Rattle.events.specs.declared.Lines.TheVariants as lines
+use Rattle.events.specs.Lines as lines
 use Rattle.events.specs.Events.{events_at}
 use Rattle.reading.specs.Request.{LastPart, make, make_all, why, check, play}
 

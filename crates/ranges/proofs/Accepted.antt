@@ -8,8 +8,8 @@ use borrow.Author.Tests.{leb-true}
 use Rattle.tables.specs.Entries.{Entries}
 use Rattle.tables.specs.State.{State, entries}
 use Rattle.steps.specs.Steps.{Outcome}
-use Rattle.lines.specs.declared.LineOne.{LineOne}
-use Rattle.lines.specs.declared.LineOne.TheVariants as one
+use Rattle.lines.specs.LineOne.{LineOne}
+use Rattle.lines.specs.LineOne as one
 use Rattle.lines.specs.LineOne.{line_one_at}
 use Rattle.lines.specs.Definition.{define_at, blank}
 use Rattle.lines.specs.Sheet.{accepted, accept, beyond, limited, sizes, sheet_from, read_sheet}

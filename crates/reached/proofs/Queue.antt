@@ -16,6 +16,7 @@ use Rattle.bitml.proofs.Counting.{at_store}
 use Rattle.tables.specs.Entries.{Entries, most_nodes}
 use Rattle.tables.specs.SheetOf.{node_entry_at, branch_entry_at, def_entry_at, branch_count, branch_number}
 use Rattle.reading.specs.Promises.{Promises}
+use Rattle.search.proofs.Visiting.{by_mark}
 use Rattle.reached.specs.Marks.{DefReached, Marked, Grown, BranchLed, NodeLed, DefLed, LedUpTo, Spread, flag}
 
 flag-le : (x : ℕ) → flag x ≤ 1
@@ -39,9 +40,6 @@ pub room : (M : List ℕ) (m : ℕ) → m < length M → get_or M m 0 ≡ 0 → 
 room [] m h e = absurd (omega arith)
 room (x ∷ M) zero h e = rw e (omega (arith, flags_le M))
 room (x ∷ M) (suc m) h e = omega (arith, room M m (omega arith) e, flag-le x)
-
-pub tail_le : {K : ℕ} {E : Entries} {M Q : List ℕ} {tail : ℕ} → Marked K E M Q tail → tail ≤ 32
-tail_le {M = M} mk = omega (arith, flags_le M, mk.long, mk.count)
 
 pub grown_same : (M : List ℕ) → Grown M M
 unfolding Grown
@@ -110,6 +108,10 @@ module _ {K : ℕ} {E : Entries} {M Q : List ℕ} {tail m : ℕ} (ok : Promises 
             (λ q. visit_at ∙ ap (λ x. x + 1) (sym q));
       }
 
+  pub visited : {x tail' : ℕ} {M' Q' : List ℕ} → x ≡ tail + 1 → M' ≡ cond (eqb (get_or M m 0) 0) (set M m x) M → Q' ≡ cond (eqb (get_or M m 0) 0) (set Q tail m) Q
+      → tail' ≡ cond (eqb (get_or M m 0) 0) (tail + 1) tail → Marked K E M' Q' tail' × Grown M M' × (0 < get_or M' m 0)
+  visited q a b c = by_mark (λ M' Q' tail'. Marked K E M' Q' tail' × Grown M M' × (0 < get_or M' m 0)) m _ a b c (λ e. rw q (visit_more e, visit_grown e, visit_marked)) (λ ne. (mk, grown_same M, positive _ ne))
+
 pub branch-other : (E : Entries) (M : List ℕ) (b : ℕ) → ((branch_entry_at E b).kind ≡ 3 → ⊥) → BranchLed E M b
 unfolding BranchLed
 branch-other E M b f k = absurd (f k)
@@ -139,9 +141,6 @@ def-more E M M' d j n g l a m hj h e =
     by_cases (dec_le (suc m) n) (λ z. grown_led E M M' m _ g (l m hj z e)) (λ z. let q : m ≡ n = omega arith in subst (λ n. NodeLed E M' n (branch_count E n)) (sym q) a)
 
 -- ---- places of the queue
-
-pub queue_reached : {K : ℕ} {E : Entries} {M Q : List ℕ} {tail : ℕ} (i : ℕ) → Marked K E M Q tail → i < tail → DefReached K E (get_or Q i 0)
-queue_reached {Q = Q} i mk h = mk.sound (get_or Q i 0) (omega (arith, mk.back i h))
 
 pub led_first : (E : Entries) (M : List ℕ) → LedUpTo E M 0
 unfolding LedUpTo
@@ -180,9 +179,6 @@ head_in {Q = Q} h mk mk' g l =
 -- ---- spreading
 
 module _ (E : Entries) (D M : List ℕ) where
-  pub spread_none : length M ≡ most_nodes → ((m : ℕ) → get_or M m 0 ≡ 0) → Spread E D M 0
-  spread_none e f = record { long = e; same = λ m h. absurd (omega arith); none = λ m h. f m }
-
   pub spread_more : (k : ℕ) → k < most_nodes → Spread E D M k → Spread E D (set M k (get_or D (node_entry_at E k).definition 0)) (k + 1)
   spread_more k h s =
       let l : k < length M = omega (arith, s.long) in

@@ -2,7 +2,8 @@
 use Rattle.std.specs.Prelude.{◌≡◌, ◌↔◌, ℕ, ◌+◌, ◌-◌, ◌≤◌, ◌<◌, true, cond, List, map, length, get_or, eqb}
 use Rattle.bitml.specs.Lists.{sum}
 use Rattle.bitml.specs.Rule.{reached}
-use Rattle.tables.specs.Entries.{Entries, most_nodes}
+use Rattle.tables.specs.Entries.{Entries, held, people, most_nodes}
+use Rattle.search.specs.declared.Search.{Search}
 use Rattle.tables.specs.SheetOf.{sheet_of, node_entry_at, branch_entry_at, def_entry_at, branch_count, branch_number}
 
 abbrev pub flag : ℕ → ℕ
@@ -21,6 +22,10 @@ pub record Marked (K : ℕ) (E : Entries) (M Q : List ℕ) (tail : ℕ) : Type 0
   pub sound : (d : ℕ) → 0 < get_or M d 0 → DefReached K E d
   pub queued : (d : ℕ) → 0 < get_or M d 0 → (get_or M d 0 ≤ tail) × (get_or Q (get_or M d 0 - 1) 0 ≡ d)
   pub back : (i : ℕ) → i < tail → get_or M (get_or Q i 0) 0 ≡ i + 1
+
+-- and so a search does
+abbrev pub Searched : List ℕ → Search 32 → Type 0
+Searched t s = Marked (people t) (held t) s.marks.now s.queue s.len
 
 -- Marks stay
 unfoldable pub Grown : List ℕ → List ℕ → Type 0

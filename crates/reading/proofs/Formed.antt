@@ -11,7 +11,7 @@ use lib.ListN.{length, get_or, get_or-eq_default}
 use lib.Dec.{eqb, ltb}
 use borrow.Author.Tests.{eqb-true, eqb-false, eq-eqb, ne_eqb, lt-ltb, ltb-true}
 use Rattle.bitml.specs.Lists.{keep, up_from, below}
-use Rattle.bitml.specs.Sheet.{withdraw, reveal, renew_as, branches_at, branch_at, node_at, no_node, parts}
+use Rattle.bitml.specs.Sheet.{renew_as, branches_at, branch_at, node_at, no_node, parts}
 use Rattle.bitml.specs.Promises.{WellFormed}
 use Rattle.bitml.specs.Rule.{rank_at}
 use Rattle.bitml.proofs.Counting.{keep-none, keep-keep}

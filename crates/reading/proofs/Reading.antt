@@ -1,4 +1,5 @@
 -- How what the code read gives what the definition says. Assumes nothing.
+use Rattle.std.specs.Prelude.{Result, Ok, Err, MatchResult, IsErrAnd}
 use Prim.Native.Nat.{ℕ, zero, suc, ◌<◌, ◌+◌}
 use mathlib.Core.Path.{◌≡◌, refl, sym, ap, ◌∙◌}
 use mathlib.Core.List.{List, []}
@@ -6,28 +7,29 @@ use mathlib.Core.Bool.{cond}
 use native.Mathlib.Omega.{arith}
 use lib.ListN.{length, get_or}
 use lib.Dec.{ltb}
-use Rattle.fields.specs.declared.Got.{Got}
-use Rattle.fields.specs.declared.Got.TheVariants.{Value, Bad}
+use Rattle.fields.specs.declared.Refused.{Refused}
+use Rattle.fields.specs.Field.{Got}
+use Rattle.fields.specs.Field.{Value, Bad}
 use Rattle.fields.specs.Field.{when_read, below_at, first_at}
 use Rattle.fields.proofs.Ranges.{below_end}
+use Rattle.places.specs.Places.{place_of}
 use Rattle.tables.specs.Entries.{held, people, defs_from}
 use Rattle.tables.specs.SheetOf.{node_entry_at, def_entry_at}
 use Rattle.tables.proofs.Held.{held-nodes, held-defs, node-held, def-held}
-use Rattle.lines.specs.Sheet.{Sized, accepted, read_sheet, WhenAccepted}
-use Rattle.lines.specs.Sheet.{refused as unread}
-use Rattle.lines.specs.Sheet.{answered as sheetAnswer}
-use Rattle.requests.specs.declared.Part.{Part}
+use Rattle.lines.specs.Sheet.{Sized, accepted}
+use Rattle.requests.specs.LastPart.{Part}
 use Rattle.requests.specs.Part.{last_part_at}
-use Rattle.requests.specs.declared.Part.TheVariants as part
-use Rattle.requests.specs.declared.RowLine.{RowLine}
-use Rattle.requests.specs.declared.RowLine.TheVariants as line
+use Rattle.requests.specs.LastPart as part
+use Rattle.requests.specs.RowLine.{RowLine}
+use Rattle.requests.specs.RowLine as line
 use Rattle.bitml.specs.Rows.{Row}
 use Rattle.buffer.specs.Buffer.{rows_of}
 use Rattle.requests.specs.Rows.{count_in, row_numbers_at, row_at, Rows, rows_with, with_line, most_rows, rows_from, rows_at, RowsHeld}
 use Rattle.requests.proofs.Sound.{rows-count}
+use Rattle.reading.specs.declared.Declined.{Declined}
 use Rattle.reading.specs.declared.Request.{Request}
 use Rattle.reading.specs.declared.Request.TheVariants as code
-use Rattle.reading.specs.Request.{Reading, refused_at, from_rows, from_part, from_sheet, read_request, answered}
+use Rattle.reading.specs.Request.{Reading, refused_at, from_rows, from_part, from_sheet, asked, told, answered}
 
 -- ---- rows are read by the counts of branches of nodes that there are
 
@@ -69,20 +71,20 @@ rows-held s t at =
 
 -- ---- the last part
 
-module _ (s t : List ℕ) (p from n : ℕ) (g : Got) (u₀ u : List ℕ) (h : RowsHeld (rows_at s (count_in t) (get_or t 2 0) from) g u₀ u) where
-  pub check-is : (e : ℕ) → g ≡ Value n e → answered (code.Check p n) t u ≡ from_part s (people t) (held t) (part.Check p from)
-  unfolding answered from_part from_rows
-  check-is e i =
+module _ (s t : List ℕ) (p from : ℕ) (u₀ u : List ℕ) where
+  pub check_is : (n e : ℕ) → RowsHeld (rows_at s (count_in t) (get_or t 2 0) from) (Value n e) u₀ u
+      → asked (code.Check p n) t u ≡ from_part s (people t) (held t) (part.Check p from)
+  unfolding asked from_part from_rows
+  check_is n e h =
       let w = rows_at s (count_in t) (get_or t 2 0) from in
-      let a : w.answer ≡ Value n e = sym h.answer ∙ i in
+      let a : w.answer ≡ Value n e = sym h.answer in
       let c : rows_of n u ≡ w.rows = rw (rows-count s (count_in t) (get_or t 2 0) from n e a) h.rows in
       rw (← rows-held s t from, a, c)
 
-  pub check-refused : (q : ℕ) (r : Request) → g ≡ Bad n q → ((t u : List ℕ) → answered r t u ≡ refused_at s n q) → answered r t u ≡ from_part s (people t) (held t) (part.Check p from)
+  pub check_refused : (n q : ℕ) → RowsHeld (rows_at s (count_in t) (get_or t 2 0) from) (Bad n q) u₀ u
+      → refused_at s n q ≡ from_part s (people t) (held t) (part.Check p from)
   unfolding from_part from_rows
-  check-refused q r i j =
-      let a : (rows_at s (count_in t) (get_or t 2 0) from).answer ≡ Bad n q = sym h.answer ∙ i in
-      rw (← rows-held s t from, a) (j t u)
+  check_refused n q h = rw (← rows-held s t from, ← h.answer)
 
 -- the secrets of definition 0, as the code finds them
 secrets-are : (s t : List ℕ) (at : ℕ) → Sized s at t → (def_entry_at (held t) 0).secrets ≡ get_or t (defs_from + 2) 0
@@ -95,15 +97,13 @@ from_sheet_lem s t at z o x r h i j = rw (secrets-are s t at z, ← h, i) j
 
 -- ---- the whole request
 
-module _ (s t : List ℕ) (g : Got) (a : (sheetAnswer g t ≡ read_sheet s) × WhenAccepted s g t) where
-  pub sized : (v at : ℕ) → g ≡ Value v at → Sized s at t
-  unfolding WhenAccepted
-  sized v at h = rw h at a.1
+-- a refusal's position becomes its place
+abbrev placed : List ℕ → Refused → Declined
+placed s e = record { refusal = e.refusal; place = place_of s e.at }
 
-  pub read_is : (v at : ℕ) (r : Reading) → g ≡ Value v at → r ≡ from_sheet s (accepted (people t) at (held t)) → r ≡ read_request s
-  unfolding read_request sheetAnswer
-  read_is v at r h i = let z : accepted (people t) at (held t) ≡ read_sheet s = rw h at a.0 in rw (← z) i
-
-  pub unread_is : (n p : ℕ) (r : Reading) → g ≡ Bad n p → r ≡ refused_at s n p → r ≡ read_request s
-  unfolding read_request sheetAnswer from_sheet
-  unread_is n p r h i = let z : unread n p ≡ read_sheet s = rw h at a.0 in rw (← z) i
+pub placed_is : (s t u : List ℕ) (x : Result Request Refused) (r : Result Request Declined) (P : Refused → Declined → Type 0)
+    → ((e : Refused) (d : Declined) → P e d → d ≡ placed s e) → MatchResult x (λ v. r ≡ Ok v) (λ e. IsErrAnd r (P e)) → answered r t u ≡ told s x t u
+unfolding refused_at
+placed_is s t u (Ok v) r P f h = rw h
+placed_is s t u (Err e) (Err d) P f h = rw (f e d h)
+placed_is s t u (Err e) (Ok v) P f h = absurd h

@@ -1,21 +1,24 @@
 -- "The reader goes field by field over the whole request before anything is judged": what a request's bytes say. Assumes nothing.
-use Rattle.std.specs.Prelude.{ℕ, List, length}
-use Rattle.fields.specs.declared.Got.{Got}
-use Rattle.fields.specs.declared.Got.TheVariants as got
+use Rattle.std.specs.Prelude.{ℕ, List, length, Result, Ok, Err}
+use Rattle.refusals.specs.Numbers.{number}
+use Rattle.fields.specs.declared.Refused.{Refused}
+use Rattle.fields.specs.Field.{Got}
+use Rattle.fields.specs.Field as got
 use Rattle.places.specs.Places.{place_of}
 use Rattle.tables.specs.Entries.{Entries, held, people}
 use Rattle.tables.specs.SheetOf.{node_entry_at, def_entry_at}
 use Rattle.lines.specs.Sheet.{SheetRead, accepted, read_sheet}
 use Rattle.lines.specs.Sheet.{refused as unread}
-use Rattle.requests.specs.declared.Part.{Part}
-use Rattle.requests.specs.declared.Part.TheVariants as part
+use Rattle.requests.specs.LastPart.{Part}
+use Rattle.requests.specs.LastPart as part
 use Rattle.requests.specs.Part.{last_part_at}
 use Rattle.bitml.specs.Rows.{Row}
 use Rattle.buffer.specs.Buffer.{rows_of}
 use Rattle.requests.specs.Rows.{rows_at}
-use Rattle.events.specs.declared.Lines.{Lines}
-use Rattle.events.specs.declared.Lines.TheVariants as lines
+use Rattle.events.specs.Lines.{Lines}
+use Rattle.events.specs.Lines as lines
 use Rattle.events.specs.Events.{events_at}
+use Rattle.reading.specs.declared.Declined.{Declined}
 use Rattle.reading.specs.declared.Request.{Request}
 use Rattle.reading.specs.declared.Request.TheVariants as code
 
@@ -67,10 +70,19 @@ read_request s = from_sheet s (read_sheet s)
 
 -- ---- what the code answers: the sheet stands in the table t, and the rows of `check` in the buffer u
 
-unfoldable pub answered : Request → List ℕ → List ℕ → Reading
-answered (code.Make p) t u = request (people t) (held t) (make p)
-answered code.MakeAll t u = request (people t) (held t) make_all
-answered (code.Why p) t u = request (people t) (held t) (why p)
-answered (code.Check p n) t u = request (people t) (held t) (check p (rows_of n u))
-answered (code.Play v e) t u = request (people t) (held t) (play v e)
-answered (code.Refused n l f) t u = refused n l f
+unfoldable pub asked : Request → List ℕ → List ℕ → Reading
+asked (code.Make p) t u = request (people t) (held t) (make p)
+asked code.MakeAll t u = request (people t) (held t) make_all
+asked (code.Why p) t u = request (people t) (held t) (why p)
+asked (code.Check p n) t u = request (people t) (held t) (check p (rows_of n u))
+asked (code.Play v e) t u = request (people t) (held t) (play v e)
+
+-- with a refusal's position
+abbrev pub told : List ℕ → Result Request Refused → List ℕ → List ℕ → Reading
+told s (Ok r) t u = asked r t u
+told s (Err e) t u = refused_at s (number e.refusal) e.at
+
+-- with its place
+abbrev pub answered : Result Request Declined → List ℕ → List ℕ → Reading
+answered (Ok r) t u = asked r t u
+answered (Err d) t u = refused (number d.refusal) d.place.line d.place.field

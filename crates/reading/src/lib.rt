@@ -2,21 +2,22 @@
 
 #![tactic(auto)]
 
-ghost use Rattle.std.specs.Prelude.{◌≡◌, List, ℕ, ◌≤◌, length, get_or};
-ghost use Rattle.tables.specs.Entries.{held, people, cells_from, Spacious, most_nodes};
+ghost use Rattle.std.specs.Prelude.{◌≡◌, ◌≤◌, length};
+ghost use Rattle.tables.specs.Entries.{held, people, cells_from, Spacious};
 ghost use Rattle.buffer.specs.Buffer.{numbers_of_one};
 ghost use Rattle.lines.specs.Sheet.{Sized, accepted};
-ghost use Rattle.requests.specs.declared.Part.TheVariants as part;
-ghost use Rattle.reading.specs.Request.{refused_at, from_part, from_sheet, read_request, answered};
+ghost use Rattle.reading.specs.Request.{from_sheet, read_request, told, answered};
 
-use events::{Lines, events};
-use fields::Got;
+use events::events;
+use fields::Refused;
 use lines::sheet;
-use places::place_of;
+use places::{Place, place_of};
+use reader::Reader;
+use refusals::Refusal;
 use requests::{Part, last_part, rows};
 use tables::Sheet;
 
-// A request: the last part of one whose sheet stands in the table, or its refusal.
+// The last part of a request whose sheet stands in the table.
 #[derive(Clone, Copy)]
 pub enum Request {
     // The participant.
@@ -28,76 +29,60 @@ pub enum Request {
     Check(usize, usize),
     // Where the values start, and where the events do.
     Play(usize, usize),
-    // Number, line and field.
-    Refused(usize, usize, usize),
 }
 
-// A refusal, before whose field a position stands.
-fn refuse(s: &[u8], n: usize, at: usize) -> Request
-    requires { length s.now ≤ 65536 }
-    ensures { (t u : List ℕ) → answered result t u ≡ refused_at s.now n at }
-{
-    let p = place_of(s, at);
-    Request::Refused(n, p.line, p.field)
+// What refuses a request, and the place of the field at which it does.
+#[derive(Clone, Copy)]
+pub struct Declined {
+    pub refusal: Refusal,
+    pub place: Place,
 }
 
-// The rows of `check`, which start at `from`.
-fn check_part(s: &[u8], p: usize, from: usize, t: &[usize], buffer: &mut [usize]) -> Request
-    requires s_len_bound { length s.now ≤ 65536 }
-    requires cells_from_in_bounds { (cells_from ≤ length t.now) × (get_or t.now 2 0 ≤ most_nodes) }
+// The last part of a request whose sheet stands in the table, and ends where the reader is.
+#[tactic(auto, using(crate::proofs::Reading::from_sheet_lem, crate::proofs::Reading::check_is, crate::proofs::Reading::check_refused), unfolding(crate::specs::Request::asked, crate::specs::Request::from_part, crate::specs::Request::from_lines))]
+fn after_sheet(r: Reader, t: &[usize], buffer: &mut [usize]) -> Result<Request, Refused>
+    requires cells_from_in_bounds { (cells_from ≤ length t.now) × Sized r.request.now r.at t.now }
     requires numbers_of_one_in_bounds { numbers_of_one ≤ length buffer.old }
-    ensures { answered result t.now buffer.new ≡ from_part s.now (people t.now) (held t.now) (part.Check p from) }
-{
-    let nodes = t[Sheet::NODES_CELL];
-    let g = rows(s, from, t, nodes, buffer);
-    match g {
-        Got::Value(n, _) => Request::Check(p, n),
-        Got::Bad(n, q) => refuse(s, n, q),
-    }
-}
-
-// The event lines of `play` with k participants, which start at `from`, after the values.
-fn play_part(s: &[u8], values: usize, from: usize, k: usize) -> Request
-    requires { length s.now ≤ 65536 }
-    ensures { (t u : List ℕ) → people t ≡ k → answered result t u ≡ from_part s.now k (held t) (part.Play values from) }
-{
-    let l = events(s, from, k);
-    match l {
-        Lines::Good => Request::Play(values, from),
-        Lines::Bad(n, q) => refuse(s, n, q),
-    }
-}
-
-// The last part of a request whose sheet ends at `at` and stands in the table.
-fn after_sheet(s: &[u8], at: usize, t: &[usize], buffer: &mut [usize]) -> Request
-    requires s_len_bound { length s.now ≤ 65536 }
-    requires cells_from_in_bounds { (cells_from ≤ length t.now) × Sized s.now at t.now }
-    requires numbers_of_one_in_bounds { numbers_of_one ≤ length buffer.old }
-    ensures { answered result t.now buffer.new ≡ from_sheet s.now (accepted (people t.now) at (held t.now)) }
+    ensures { told r.entry.request.now result t.now buffer.new ≡ from_sheet r.entry.request.now (accepted (people t.now) r.entry.at (held t.now)) }
 {
     let k = t[Sheet::PARTICIPANTS_CELL];
-    let secrets = t[Sheet::DEFS_AT + 2];
-    let o = last_part(s, at, k, secrets);
-    match o {
-        Part::Make(p) => Request::Make(p),
-        Part::MakeAll => Request::MakeAll,
-        Part::Why(p) => Request::Why(p),
-        Part::Check(p, from) => check_part(s, p, from, t, buffer),
-        Part::Play(values, from) => play_part(s, values, from, k),
-        Part::Bad(n, q) => refuse(s, n, q),
+    let part = last_part(r, k, t[Sheet::DEFS_AT + 2])?;
+    match part {
+        Part::Make(p) => Ok(Request::Make(p)),
+        Part::MakeAll => Ok(Request::MakeAll),
+        Part::Why(p) => Ok(Request::Why(p)),
+        Part::Check(p, at) => {
+            let (n, _) = rows(Reader { at, ..r }, t, t[Sheet::NODES_CELL], buffer)?;
+            Ok(Request::Check(p, n))
+        }
+        Part::Play(values, at) => {
+            events(Reader { at, ..r }, k)?;
+            Ok(Request::Play(values, at))
+        }
     }
+}
+
+// The sheet into the table, and the rows of a `check` into the buffer, whatever they held.
+#[tactic(auto, unfolding(crate::specs::Request::read_request, crate::specs::Request::from_sheet, lines::specs::Sheet::answered, lines::specs::Sheet::WhenAccepted))]
+fn read_whole(s: &[u8], t: &mut [usize], buffer: &mut [usize]) -> Result<Request, Refused>
+    requires s_len_bound { length s.now ≤ 65536 }
+    requires spacious { Spacious s.now t.old }
+    requires numbers_of_one_in_bounds { numbers_of_one ≤ length buffer.old }
+    ensures { told s.now result t.new buffer.new ≡ read_request s.now }
+{
+    let at = sheet(s, t)?;
+    after_sheet(Reader { request: s, at }, t, buffer)
 }
 
 // The request's bytes, read: its sheet into the table, the rows of a `check` into the buffer, whatever they held.
-pub fn read(s: &[u8], t: &mut [usize], buffer: &mut [usize]) -> Request
+pub fn read(s: &[u8], t: &mut [usize], buffer: &mut [usize]) -> Result<Request, Declined>
     requires s_len_bound { length s.now ≤ 65536 }
     requires spacious { Spacious s.now t.old }
     requires numbers_of_one_in_bounds { numbers_of_one ≤ length buffer.old }
     ensures { answered result t.new buffer.new ≡ read_request s.now }
 {
-    let g = sheet(s, t);
-    match g {
-        Got::Value(_, at) => after_sheet(s, at, t, buffer),
-        Got::Bad(n, p) => refuse(s, n, p),
-    }
+    read_whole(s, t, buffer).map_err(|e| Declined {
+        refusal: e.refusal,
+        place: place_of(s, e.at),
+    })
 }

@@ -1,5 +1,6 @@
 -- The lines that say why, one behind the other. Assumes nothing.
-use mathlib.Core.Path.{◌≡◌, sym, ap, ◌∙◌, subst}
+use mathlib.Core.Path.{◌≡◌, refl, sym, ap, ◌∙◌, subst}
+use Rattle.std.specs.Prelude.{Option, None, Some, unwrap_or}
 use Prim.Native.Nat.{ℕ, suc, ◌+◌, ◌-◌, ◌≤◌, ◌<◌}
 use native.Mathlib.Omega.{arith}
 use native.Mathlib.Numerals.{add-one}
@@ -8,7 +9,6 @@ use mathlib.Core.List.{List, [], ◌∷◌, ◌++◌, map}
 use lib.ListN.{length, get_or, drop, replicate, drop_of_length-le}
 use lib.Seq.{drop-cons}
 use lib.Dec.{eqb}
-use borrow.Author.Tests.{eq-eqb, ne_eqb}
 use Rattle.bitml.specs.Sheet.{Sheet, no_branch, def_at, branches_at, branch_at}
 use Rattle.bitml.specs.Rule.{Verdict, frozen, make, reached}
 use Rattle.bitml.specs.Runs.{Exit}
@@ -25,6 +25,9 @@ use Rattle.tables.proofs.SheetOf.{root_is, nodes-are, count_of, branch_of_lem}
 use Rattle.buffer.specs.Buffer.{filled}
 use Rattle.reading.proofs.Formed.{well_formed_lem}
 use Rattle.sheets.specs.Ready.{Ready}
+use Rattle.owning.specs.declared.Cause.{Cause}
+use Rattle.owning.specs.declared.Cause.TheVariants.{Signer, Secret, Condition, Renewal, Contract}
+use Rattle.owning.specs.Causes.{number, told}
 use Rattle.exits.specs.Made.{answer_of, buffer_of}
 use Rattle.exits.specs.declared.Verdict.TheVariants.{Liquid}
 use Rattle.exits.proofs.Told.{root-first, told-liquid}
@@ -128,23 +131,22 @@ frozen-at t ok p n e =
     let r = reached_complete (sheet_in t) wf n f.reach in
     (omega (arith, reached_in (sheet_in t) n r, nodes-are (people t) (held t)), r, f.no_exit)
 
-module _ (t : List ℕ) (ok : Ready t) (p n i : ℕ) (hn : n < length (held t).nodes) (hi : i < branch_count (held t) n) (no_exit : Exit (sheet_in t) p n → ⊥) where
-  cause_by : cause (sheet_in t) p n (branch_at (sheet_in t) n i)
-      ≡ cond (eqb (bar (sheet_in t) p n (branch_of (held t) (branch_number (held t) n i))) 0) 5 (bar (sheet_in t) p n (branch_of (held t) (branch_number (held t) n i)))
-  cause_by =
-      cause-bar (sheet_in t) (well_formed_lem (people t) (held t) ok.promises) p n i (omega (arith, count_of (people t) (held t) n hn)) no_exit
-      ∙ ap (λ br. cond (eqb (bar (sheet_in t) p n br) 0) 5 (bar (sheet_in t) p n br)) (branch_of_lem (people t) (held t) n i hn hi)
+-- an own branch lacks an exit by a contract in it
+cause-told : (k : Option Cause) → number (unwrap_or k Contract) ≡ cond (eqb (told k) 0) 5 (told k)
+cause-told None = refl
+cause-told (Some Signer) = refl
+cause-told (Some Secret) = refl
+cause-told (Some Condition) = refl
+cause-told (Some Renewal) = refl
+cause-told (Some Contract) = refl
 
-  -- as the code has them: branch b, and k bars it
-  module _ (b k : ℕ) (e : b ≡ branch_number (held t) n i) (q : k ≡ bar (sheet_in t) p n (branch_of (held t) b)) where
-    cause-at : cause (sheet_in t) p n (branch_at (sheet_in t) n i) ≡ cond (eqb k 0) 5 k
-    cause-at = cause_by ∙ ap (λ j. cond (eqb j 0) 5 j) (sym (q ∙ ap (λ b. bar (sheet_in t) p n (branch_of (held t) b)) e))
-
-    pub cause-own : k ≡ 0 → 5 ≡ cause (sheet_in t) p n (branch_at (sheet_in t) n i)
-    cause-own z = sym (cause-at ∙ ap (λ w. cond w 5 k) (eq-eqb k 0 z))
-
-    pub cause_barred : (k ≡ 0 → ⊥) → k ≡ cause (sheet_in t) p n (branch_at (sheet_in t) n i)
-    cause_barred f = sym (cause-at ∙ ap (λ w. cond w 5 k) (ne_eqb k 0 f))
+-- branch b is number i of node n, and k bars it
+pub cause_is : (t : List ℕ) → Ready t → (p n i b : ℕ) (k : Option Cause) → n < length (held t).nodes → i < branch_count (held t) n → (Exit (sheet_in t) p n → ⊥)
+    → b ≡ branch_number (held t) n i → told k ≡ bar (sheet_in t) p n (branch_of (held t) b) → number (unwrap_or k Contract) ≡ cause (sheet_in t) p n (branch_at (sheet_in t) n i)
+cause_is t ok p n i b k hn hi no_exit e q =
+    let K = people t in let E = held t in let s = sheet_in t in
+    cause-told k ∙ ap (λ j. cond (eqb j 0) 5 j) (q ∙ ap (λ b. bar s p n (branch_of E b)) e ∙ sym (ap (bar s p n) (branch_of_lem K E n i hn hi)))
+    ∙ sym (cause-bar s (well_formed_lem K E ok.promises) p n i (omega (arith, count_of K E n hn)) no_exit)
 
 -- ---- the answer
 

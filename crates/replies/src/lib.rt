@@ -3,22 +3,19 @@
 #![tactic(auto)]
 
 ghost use Rattle.std.specs.Prelude.{◌≡◌, ◌≤◌, length};
+ghost use Rattle.refusals.specs.Numbers.{told};
 ghost use Rattle.bitml.specs.Answers.{refused, places_of_one};
 ghost use Rattle.replies.specs.Answer.{Gives, least_text};
 ghost use Rattle.replies.specs.Before.{early};
 
 use buffer::{PLACES, clear as clear_numbers};
+use refusals::Refusal;
 use texts::clear;
 
 // The longest request.
 pub const BYTES: usize = 65536;
 
-// Refused: a request that is too long, a buffer that is too short.
-pub const TOO_LONG: usize = 1;
-
-pub const TOO_SHORT: usize = 7;
-
-// Refused with number, line and field; or, where the number is 0, answered with so many bytes of text.
+// The layout of include/hurkoxel.h. Refused with number, line and field; or, where the number is 0, answered with so many bytes of text.
 #[repr(C)]
 #[derive(Clone, Copy)]
 pub struct Reply {
@@ -72,19 +69,16 @@ pub fn refuse(
     declined(number, line, field)
 }
 
-// What refuses a request before it is read: 0 for nothing.
-pub fn early(bytes: usize, rows: usize, text: usize) -> usize
-    ensures value { result ≡ early bytes rows text }
-    ensures bytes_bound { result ≡ 0 → (bytes ≤ 65536) × (places_of_one ≤ rows) × (least_text ≤ text) }
+// What refuses a request before it is read.
+pub fn early(bytes: usize, rows: usize, text: usize) -> Option<Refusal>
+    ensures value { told result ≡ early bytes rows text }
+    ensures bytes_bound { told result ≡ 0 → (bytes ≤ 65536) × (places_of_one ≤ rows) × (least_text ≤ text) }
 {
     if BYTES < bytes {
-        return TOO_LONG;
+        return Some(Refusal::TooLong);
     }
-    if rows < PLACES {
-        return TOO_SHORT;
+    if rows < PLACES || text < Reply::TEXT {
+        return Some(Refusal::OverLimit);
     }
-    if text < Reply::TEXT {
-        return TOO_SHORT;
-    }
-    0
+    None
 }

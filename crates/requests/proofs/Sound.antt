@@ -10,16 +10,16 @@ use lib.ListN.{length, get_or, length-append, get_or-append}
 use lib.Seq.{get_or_at}
 use Rattle.fields.proofs.Ranges.{when_read-cases, cond_cases, never, below_end, between-end, line-end-next}
 use Rattle.fields.specs.Field.{spelled, below_at, between_at, first_at, line_end_at}
-use Rattle.fields.specs.declared.Got.TheVariants.{Value, Bad}
+use Rattle.fields.specs.Field.{Value, Bad}
 use Rattle.requests.proofs.Laws.{past_end}
 use Rattle.requests.specs.Part.{participant_at, last_participant_at, past_value_at, past_values_at, make_at, make_all_at, why_at, check_at, play_at, last_part_at}
 use Rattle.bitml.specs.Rows.{Row}
 use Rattle.buffer.specs.Buffer.{row}
 use Rattle.requests.specs.Rows.{most_rank, most_rows, RowFits, Rows, rows_with, row_numbers_at, row_at, no_room_at, with_line, rows_from, rows_at}
-use Rattle.requests.specs.declared.Part.{Part}
-use Rattle.requests.specs.declared.RowLine.{RowLine}
-use Rattle.requests.specs.declared.Part.TheVariants as part
-use Rattle.requests.specs.declared.RowLine.TheVariants as line
+use Rattle.requests.specs.LastPart.{Part}
+use Rattle.requests.specs.RowLine.{RowLine}
+use Rattle.requests.specs.LastPart as part
+use Rattle.requests.specs.RowLine as line
 
 -- ---- the last part's first line
 

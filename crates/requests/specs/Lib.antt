@@ -1,2 +1,5 @@
+pub mod Commitment
+pub mod LastPart
 pub mod Part
+pub mod RowLine
 pub mod Rows

@@ -1,12 +1,12 @@
 -- The last part's first line, and the values of secrets. A refusal is a number of document 01 and the position before its field.
 use Rattle.std.specs.Prelude.{ℕ, zero, suc, cond, List, ltb, eqb, length}
 use Rattle.fields.specs.Field.{spelled, when_read, number_at, below_at, word_at, first_at, line_end_at}
-use Rattle.fields.specs.declared.Got.{Got}
-use Rattle.fields.specs.declared.Got.TheVariants.{Value, Bad}
-use Rattle.requests.specs.declared.Commitment.{Commitment}
-use Rattle.requests.specs.declared.Part.{Part}
-use Rattle.requests.specs.declared.Part.TheVariants as part
-use Rattle.requests.specs.declared.Commitment.TheVariants as commitment
+use Rattle.fields.specs.Field.{Got}
+use Rattle.fields.specs.Field.{Value, Bad}
+use Rattle.requests.specs.Commitment.{Commitment}
+use Rattle.requests.specs.LastPart.{Part}
+use Rattle.requests.specs.LastPart as part
+use Rattle.requests.specs.Commitment as commitment
 
 -- ---- values of secrets
 

@@ -2,12 +2,12 @@
 use Rattle.std.specs.Prelude.{ℕ, zero, suc, ◌<◌, ◌≤◌, cond, List, [], ◌∷◌, ◌++◌, ◌≡◌, ltb, eqb, length}
 use Rattle.bitml.specs.Rows.{Row}
 use Rattle.fields.specs.Field.{spelled, when_read, below_at, between_at, first_at, line_end_at}
-use Rattle.fields.specs.declared.Got.{Got}
-use Rattle.fields.specs.declared.Got.TheVariants.{Value, Bad}
+use Rattle.fields.specs.Field.{Got}
+use Rattle.fields.specs.Field.{Value, Bad}
 use Rattle.tables.specs.Entries.{node_in}
 use Rattle.buffer.specs.Buffer.{row, rows_of, past_rows}
-use Rattle.requests.specs.declared.RowLine.{RowLine}
-use Rattle.requests.specs.declared.RowLine.TheVariants as line
+use Rattle.requests.specs.RowLine.{RowLine}
+use Rattle.requests.specs.RowLine as line
 
 abbrev pub most_rank : ℕ
 most_rank = 65_535

@@ -1,16 +1,21 @@
 // The last part of a request: `make`, `makeall`, `why`, `check` with its rows, `play` with its values.
 
-#![tactic(auto)]
+#![tactic(auto, unfolding(crate::specs::Part::value_at, crate::specs::Part::participant_at, crate::specs::Part::last_participant_at, crate::specs::Part::make_at, crate::specs::Part::make_all_at, crate::specs::Part::why_at, crate::specs::Part::check_at, crate::specs::Part::play_at, crate::specs::Part::last_part_at, crate::specs::Rows::row_numbers_at, fields::specs::Field::when_read))]
 
-ghost use Rattle.std.specs.Prelude.{◌≡◌, ◌+◌, ◌≤◌, ◌<◌, length};
+ghost use Rattle.std.specs.Prelude.{◌≡◌, ◌≤◌, ◌<◌, length};
+ghost use Rattle.fields.specs.Told.{told, told_end};
 ghost use Rattle.tables.specs.Entries.{cells_from, most_nodes};
 ghost use Rattle.buffer.specs.Buffer.{numbers_of_one};
-ghost use Rattle.requests.specs.Part.{last_part_at, make_at, make_all_at, why_at, check_at, play_at, participant_at, last_participant_at, value_at, past_value_at, past_values_at};
-ghost use Rattle.requests.specs.Rows.{count_in, row_at, row_numbers_at, no_room_at, rows_at, RowsHeld};
+ghost use Rattle.requests.specs.Commitment.{told as told_value};
+ghost use Rattle.requests.specs.LastPart.{told as told_part};
+ghost use Rattle.requests.specs.Part.{last_part_at, make_all_at, play_at, participant_at, last_participant_at, value_at, past_value_at, past_values_at};
+ghost use Rattle.requests.specs.RowLine.{told as told_line};
+ghost use Rattle.requests.specs.Rows.{count_in, row_numbers_at, rows_at, RowsHeld};
 
-use buffer::put_row;
-use fields::Got;
-use reader::{first_from, line_end_from, number_below, number_between, number_up_to, word_from};
+use buffer::{Row, put_row};
+use fields::Refused;
+use reader::Reader;
+use refusals::Refusal;
 use tables::Sheet;
 
 const MAKE: usize = ((b'm' as usize * 256 + b'a' as usize) * 256 + b'k' as usize) * 256
@@ -52,188 +57,113 @@ pub enum Part {
     Check(usize, usize),
     // Where the values start, and where the events do.
     Play(usize, usize),
-    // A refusal: its number, and the position before its field.
-    Bad(usize, usize),
-}
-
-// A value of a secret, and the position after its field; `x`; or a refusal.
-#[derive(Clone, Copy)]
-pub enum Commitment {
-    Number(usize, usize),
-    Ill(usize),
-    Bad(usize, usize),
-}
-
-// A line `row`: its node, branch and rank, and the position after it; or a refusal.
-#[derive(Clone, Copy)]
-pub enum RowLine {
-    Row(usize, usize, usize, usize),
-    Bad(usize, usize),
 }
 
 // ---- values of secrets
 
-// The field after a comma at `at`, as a secret's value.
-pub fn value_at(s: &[u8], at: usize) -> Commitment
-    ensures { result ≡ value_at s.now at }
+// The field that is due, as a secret's value: none where it is `x`.
+pub fn value_at(r: Reader) -> Result<(Option<usize>, usize), Refused>
+    ensures { told_value result ≡ value_at r.entry.request.now r.entry.at }
 {
-    let g = word_from(s, at);
-    match g {
-        Got::Value(w, e) => {
-            if w == X {
-                return Commitment::Ill(e);
-            }
-            let h = number_up_to(s, at, VALUE);
-            match h {
-                Got::Value(v, f) => Commitment::Number(v, f),
-                Got::Bad(m, p) => Commitment::Bad(m, p),
-            }
-        }
-        Got::Bad(m, p) => Commitment::Bad(m, p),
+    let (w, end) = r.word()?;
+    if w == X {
+        return Ok((None, end));
     }
+    let (v, end) = r.number_up_to(VALUE)?;
+    Ok((Some(v), end))
 }
 
 // The position after a secret's value.
-pub fn past_value(s: &[u8], at: usize) -> Got
-    ensures { result ≡ past_value_at s.now at }
+#[tactic(auto, using(crate::proofs::Laws::past_committed), unfolding(crate::specs::Part::past_value_at, crate::specs::Part::past_of))]
+pub fn past_value(r: Reader) -> Result<usize, Refused>
+    ensures { told_end result ≡ past_value_at r.entry.request.now r.entry.at }
 {
-    let g = value_at(s, at);
-    match g {
-        Commitment::Number(_, e) => Got::Value(0, e),
-        Commitment::Ill(e) => Got::Value(0, e),
-        Commitment::Bad(m, p) => Got::Bad(m, p),
-    }
+    let (_, end) = value_at(r)?;
+    Ok(end)
 }
 
 // The position after n values.
-fn past_values(s: &[u8], at: usize, n: usize) -> Got
-    ensures { result ≡ past_values_at s.now n at }
+#[tactic(auto, using(crate::proofs::Laws::values_on, crate::proofs::Laws::values_bad, crate::proofs::Laws::values_end))]
+fn past_values(r: Reader, n: usize) -> Result<usize, Refused>
+    ensures { told_end result ≡ past_values_at r.entry.request.now n r.entry.at }
 {
-    let mut p = at;
-    let mut left = n;
-    while 0 < left {
-        let g = past_value(s, p);
-        let Got::Value(_, e) = g else {
-            return g;
-        };
-        p = e;
-        left -= 1;
+    let mut at = r.at;
+    for _ in 0..n {
+        at = past_value(Reader { at, ..r })?;
     }
-    Got::Value(0, p)
+    Ok(at)
 }
 
 // ---- the last part's first line
 
 // A participant, alone to the line's end.
-fn participant(s: &[u8], at: usize, people: usize) -> Got
-    ensures { result ≡ participant_at s.now people at }
+fn participant(r: Reader, people: usize) -> Result<(usize, usize), Refused>
+    ensures { told result ≡ participant_at r.entry.request.now people r.entry.at }
 {
-    let g = number_below(s, at, people);
-    let Got::Value(p, e) = g else {
-        return g;
-    };
-    let h = line_end_from(s, e);
-    let Got::Value(_, f) = h else {
-        return h;
-    };
-    Got::Value(p, f)
+    let (p, at) = r.number_below(people)?;
+    let end = Reader { at, ..r }.line_end()?;
+    Ok((p, end))
 }
 
 // A participant, alone to the request's end.
-fn last_participant(s: &[u8], at: usize, people: usize) -> Got
-    ensures { result ≡ last_participant_at s.now people at }
+fn last_participant(r: Reader, people: usize) -> Result<(usize, usize), Refused>
+    ensures { told result ≡ last_participant_at r.entry.request.now people r.entry.at }
 {
-    let g = participant(s, at, people);
-    let Got::Value(p, e) = g else {
-        return g;
-    };
-    if e < s.len() {
-        return Got::Bad(9, e);
+    let (p, end) = participant(r, people)?;
+    if end < r.request.len() {
+        return Err(Refused {
+            refusal: Refusal::TooMany,
+            at: end,
+        });
     }
-    Got::Value(p, e)
-}
-
-// `make`, after its word.
-fn make_part(s: &[u8], at: usize, people: usize) -> Part
-    ensures { result ≡ make_at s.now people at }
-{
-    let g = last_participant(s, at, people);
-    match g {
-        Got::Value(p, _) => Part::Make(p),
-        Got::Bad(m, q) => Part::Bad(m, q),
-    }
+    Ok((p, end))
 }
 
 // `makeall`, after its word.
-fn make_all_part(s: &[u8], at: usize) -> Part
-    ensures { result ≡ make_all_at s.now at }
+fn make_all_part(r: Reader) -> Result<Part, Refused>
+    ensures { told_part result ≡ make_all_at r.entry.request.now r.entry.at }
 {
-    let g = line_end_from(s, at);
-    match g {
-        Got::Value(_, e) => {
-            if e < s.len() {
-                return Part::Bad(9, e);
-            }
-            Part::MakeAll
-        }
-        Got::Bad(m, q) => Part::Bad(m, q),
+    let end = r.line_end()?;
+    if end < r.request.len() {
+        return Err(Refused {
+            refusal: Refusal::TooMany,
+            at: end,
+        });
     }
-}
-
-// `why`, after its word.
-fn why_part(s: &[u8], at: usize, people: usize) -> Part
-    ensures { result ≡ why_at s.now people at }
-{
-    let g = last_participant(s, at, people);
-    match g {
-        Got::Value(p, _) => Part::Why(p),
-        Got::Bad(m, q) => Part::Bad(m, q),
-    }
-}
-
-// `check`, after its word.
-fn check_part(s: &[u8], at: usize, people: usize) -> Part
-    ensures { result ≡ check_at s.now people at }
-{
-    let g = participant(s, at, people);
-    match g {
-        Got::Value(p, e) => Part::Check(p, e),
-        Got::Bad(m, q) => Part::Bad(m, q),
-    }
+    Ok(Part::MakeAll)
 }
 
 // `play`, after its word.
-fn play_part(s: &[u8], at: usize, secrets: usize) -> Part
-    ensures { result ≡ play_at s.now secrets at }
+fn play_part(r: Reader, secrets: usize) -> Result<Part, Refused>
+    ensures { told_part result ≡ play_at r.entry.request.now secrets r.entry.at }
 {
-    let g = past_values(s, at, secrets);
-    match g {
-        Got::Value(_, e) => {
-            let h = line_end_from(s, e);
-            match h {
-                Got::Value(_, f) => Part::Play(at, f),
-                Got::Bad(m, q) => Part::Bad(m, q),
-            }
-        }
-        Got::Bad(m, q) => Part::Bad(m, q),
-    }
+    let at = past_values(r, secrets)?;
+    let end = Reader { at, ..r }.line_end()?;
+    Ok(Part::Play(r.at, end))
 }
 
-// The last part's first line, which starts at `at`. Definition 0 has so many secrets.
-pub fn last_part(s: &[u8], at: usize, people: usize, secrets: usize) -> Part
-    ensures { result ≡ last_part_at s.now people secrets at }
+// The last part's first line, which starts where the reader is. Definition 0 has so many secrets.
+pub fn last_part(r: Reader, people: usize, secrets: usize) -> Result<Part, Refused>
+    ensures { told_part result ≡ last_part_at r.entry.request.now people secrets r.entry.at }
 {
-    let g = first_from(s, at);
-    match g {
-        Got::Value(w, e) => match w {
-            MAKE => make_part(s, e, people),
-            MAKEALL => make_all_part(s, e),
-            WHY => why_part(s, e, people),
-            CHECK => check_part(s, e, people),
-            PLAY => play_part(s, e, secrets),
-            _ => Part::Bad(3, at),
-        },
-        Got::Bad(m, p) => Part::Bad(m, p),
+    let (w, at) = r.first()?;
+    let rest = Reader { at, ..r };
+    match w {
+        MAKE => {
+            let (p, _) = last_participant(rest, people)?;
+            Ok(Part::Make(p))
+        }
+        MAKEALL => make_all_part(rest),
+        WHY => {
+            let (p, _) = last_participant(rest, people)?;
+            Ok(Part::Why(p))
+        }
+        CHECK => {
+            let (p, end) = participant(rest, people)?;
+            Ok(Part::Check(p, end))
+        }
+        PLAY => play_part(rest, secrets),
+        _ => Err(r.refused(Refusal::NotDue)),
     }
 }
 
@@ -249,91 +179,47 @@ pub fn branch_count(t: &[usize], node: usize) -> usize
 }
 
 // A line `row`, after its word.
-fn row_numbers(s: &[u8], at: usize, t: &[usize], nodes: usize) -> RowLine
+fn row_numbers(r: Reader, t: &[usize], nodes: usize) -> Result<(Row, usize), Refused>
     requires cells_from_in_bounds { cells_from ≤ length t.now }
     requires nodes_le_most_nodes { nodes ≤ most_nodes }
-    ensures { result ≡ row_numbers_at s.now (count_in t.now) nodes at }
+    ensures { told_line result ≡ row_numbers_at r.entry.request.now (count_in t.now) nodes r.entry.at }
 {
-    let g = number_below(s, at, nodes);
-    match g {
-        Got::Value(n, e) => {
-            let count = branch_count(t, n);
-            let h = number_below(s, e, count);
-            match h {
-                Got::Value(b, f) => {
-                    let i = number_between(s, f, 1, RANK);
-                    match i {
-                        Got::Value(k, q) => {
-                            let l = line_end_from(s, q);
-                            match l {
-                                Got::Value(_, z) => RowLine::Row(n, b, k, z),
-                                Got::Bad(m, p) => RowLine::Bad(m, p),
-                            }
-                        }
-                        Got::Bad(m, p) => RowLine::Bad(m, p),
-                    }
-                }
-                Got::Bad(m, p) => RowLine::Bad(m, p),
-            }
-        }
-        Got::Bad(m, p) => RowLine::Bad(m, p),
-    }
+    let (node, at) = r.number_below(nodes)?;
+    let (branch, at) = Reader { at, ..r }.number_below(branch_count(t, node))?;
+    let (rank, at) = Reader { at, ..r }.number_between(1, RANK)?;
+    let end = Reader { at, ..r }.line_end()?;
+    Ok((Row { node, branch, rank }, end))
 }
 
-// A line `row`, which starts at `at`.
-fn row_line(s: &[u8], at: usize, t: &[usize], nodes: usize) -> RowLine
-    requires cells_from_in_bounds { cells_from ≤ length t.now }
-    requires nodes_le_most_nodes { nodes ≤ most_nodes }
-    ensures { result ≡ row_at s.now (count_in t.now) nodes at }
-{
-    let g = first_from(s, at);
-    match g {
-        Got::Value(w, e) => {
-            if w == ROW {
-                return row_numbers(s, e, t, nodes);
-            }
-            RowLine::Bad(3, at)
-        }
-        Got::Bad(m, p) => RowLine::Bad(m, p),
-    }
-}
-
-// A line after the last row that there is room for.
-fn no_room(s: &[u8], at: usize) -> Got
-    ensures { result ≡ no_room_at s.now at }
-{
-    let g = first_from(s, at);
-    let Got::Value(w, _) = g else {
-        return g;
-    };
-    if w == ROW {
-        return Got::Bad(7, at);
-    }
-    Got::Bad(3, at)
-}
-
-// The rows of `check`, whose lines start at `from`: how many, and the request's end. The buffer holds them, and past them what it held.
-pub fn rows(s: &[u8], from: usize, t: &[usize], nodes: usize, buffer: &mut [usize]) -> Got
+// The rows of `check`, whose lines start where the reader is: how many, and the request's end. The buffer holds them, and past them what it
+// held.
+pub fn rows(
+    r: Reader,
+    t: &[usize],
+    nodes: usize,
+    buffer: &mut [usize],
+) -> Result<(usize, usize), Refused>
     requires cells_from_in_bounds { cells_from ≤ length t.now }
     requires nodes_le_most_nodes { nodes ≤ most_nodes }
     requires numbers_of_one_in_bounds { numbers_of_one ≤ length buffer.old }
-    ensures { RowsHeld (rows_at s.now (count_in t.now) nodes from) result buffer.old buffer.new }
+    ensures { RowsHeld (rows_at r.entry.request.now (count_in t.now) nodes r.entry.at) (told result) buffer.old buffer.new }
 {
-    let mut at = from;
+    // A line's end says where the next one starts.
+    let mut at = r.at;
     let mut i = 0;
-    while at < s.len() {
+    while at < r.request.len() {
+        let line = Reader { at, ..r };
+        let (w, end) = line.first()?;
+        if w != ROW {
+            return Err(line.refused(Refusal::NotDue));
+        }
         if i == ROWS {
-            return no_room(s, at);
+            return Err(line.refused(Refusal::OverLimit));
         }
-        let g = row_line(s, at, t, nodes);
-        match g {
-            RowLine::Row(node, branch, rank, e) => {
-                put_row(buffer, i, node, branch, rank);
-                i += 1;
-                at = e;
-            }
-            RowLine::Bad(m, p) => return Got::Bad(m, p),
-        }
+        let (row, next) = row_numbers(Reader { at: end, ..r }, t, nodes)?;
+        put_row(buffer, i, row);
+        i += 1;
+        at = next;
     }
-    Got::Value(i, at)
+    Ok((i, at))
 }

@@ -1,10 +1,10 @@
 -- What is wrong with a row, by the array of ranks: a turn of each loop, and the whole check. Assumes nothing.
 use mathlib.Core.Path.{◌≡◌, refl, sym, ap, ap₂, ◌∙◌}
-use Prim.Native.Nat.{ℕ, zero, suc, ◌+◌, ◌≤◌, ◌<◌}
+use Prim.Native.Nat.{ℕ, zero, suc, ◌+◌, ◌*◌, ◌≤◌, ◌<◌}
 use native.Mathlib.Omega.{arith}
-use mathlib.Core.Bool.{Bool, true, false, not}
+use mathlib.Core.Bool.{true, false, not}
 use mathlib.Core.List.{List, [], ◌∷◌, map}
-use lib.ListN.{length, get_or, drop, drop_of_length-le}
+use lib.ListN.{length, get_or, drop}
 use lib.Dec.{eqb, leb}
 use borrow.Author.Tests.{ne_eqb, lt-ltb, le-leb, lt-leb}
 use Rattle.bitml.specs.Lists.{◌&◌, ask, sum, every}
@@ -21,33 +21,17 @@ use Rattle.reading.specs.Promises.{Promises}
 use Rattle.reading.proofs.Formed.{parts-are-nodes}
 use Rattle.sheets.specs.Ready.{Ready}
 use Rattle.order.specs.Nodes.{Known, has_by, order_fault}
-use Rattle.order.proofs.Ranks.{drop-one, rows_from_lem, rows_end, known_has}
+use Rattle.order.proofs.Ranks.{rows_from_lem, rows_end, known_has}
 use Rattle.order.proofs.Order.{order_then}
-use Rattle.rows.specs.Given.{RowsFit, next_by, rank_sum, fault_by, answer_of}
-use Rattle.rows.specs.declared.Checked.TheVariants.{Liquid, Refused}
+use Rattle.rows.specs.Given.{RowsFit, next_by, rank_sum, fault_by, answer_of, Liquid, Refused}
 use Rattle.rows.proofs.Promised.{row-branch}
+use Rattle.tables.specs.Kinds.{code}
+use Rattle.tables.specs.declared.Kind.{Kind}
+use Rattle.tables.specs.declared.Kind.TheVariants.{Withdraw, Split, Reveal, Renew}
+use Rattle.std.specs.List.{sum_by}
+use Rattle.std.proofs.lemmas.List.Sums.{sum_by-cons, sum_by-le}
 
--- ---- loops
-
-module _ (T : ℕ → Bool) (xs : List ℕ) (i : ℕ) where
-  pub every_no : i < length xs → T (get_or xs i 0) ≡ false → every T (drop i xs) ≡ false
-  unfolding ◌&◌
-  every_no h e = ap (every T) (drop-one xs i 0 h) ∙ rw e
-
-  pub every_yes : i < length xs → T (get_or xs i 0) ≡ true → every T (drop i xs) ≡ every T (drop (i + 1) xs)
-  every_yes h e = ap (every T) (drop-one xs i 0 h) ∙ and_true _ _ e
-
-  pub every-end : length xs ≤ i → every T (drop i xs) ≡ true
-  every-end h = ap (every T) (drop_of_length-le xs h)
-
-module _ (A xs : List ℕ) (i : ℕ) where
-  pub sum_one : i < length xs → rank_sum A (drop i xs) ≡ get_or A (get_or xs i 0) 0 + rank_sum A (drop (i + 1) xs)
-  unfolding rank_sum
-  sum_one h = ap (rank_sum A) (drop-one xs i 0 h)
-
-  pub sum-end : length xs ≤ i → rank_sum A (drop i xs) ≡ 0
-  unfolding rank_sum
-  sum-end h = ap (rank_sum A) (drop_of_length-le xs h)
+-- ---- a node's row
 
 module _ (A : List ℕ) (m : ℕ) where
   pub has_no : get_or A m 0 ≡ 0 → has_by A m ≡ false
@@ -58,7 +42,24 @@ module _ (A : List ℕ) (m : ℕ) where
   unfolding has_by
   has_yes f = rw (ne_eqb (get_or A m 0) 0 f)
 
+-- ---- the sum of ranks
+
+module _ (A : List ℕ) where
+  pub sum-is : (ms : List ℕ) → sum_by (λ m. get_or A m 0) ms ≡ rank_sum A ms
+  unfolding rank_sum
+  sum-is [] = refl
+  sum-is (m ∷ ms) = sum_by-cons (λ m. get_or A m 0) m ms ∙ ap (λ k. get_or A m 0 + k) (sum-is ms)
+
+  pub sum-small : (top : ℕ) → ((m : ℕ) → get_or A m 0 ≤ top) → (ms : List ℕ) → sum_by (λ m. get_or A m 0) ms ≤ length ms * top
+  sum-small top h ms = sum_by-le (λ m. get_or A m 0) top ms (λ k d l. h (get_or ms k d))
+
 -- ---- what a branch leads to
+
+pub renew-is : (k : Kind) → code k ≡ 3 → k ≡ Renew
+renew-is Withdraw e = absurd (omega arith)
+renew-is Split e = absurd (omega arith)
+renew-is Reveal e = absurd (omega arith)
+renew-is Renew e = refl
 
 module _ (K : ℕ) (E : Entries) (ok : Promises K E) (A : List ℕ) (b : ℕ) (hb : b < length E.branches) where
   next-parts : ((branch_entry_at E b).kind ≡ 3 → ⊥) → next (sheet_of K E) (branch_of E b).action ≡ part_numbers E b
@@ -133,18 +134,21 @@ row-fault t u n ok fit p A kn i h =
 
 -- ---- row by row
 
-module _ (s : Sheet) (p : ℕ) (u : List ℕ) (i n : ℕ) (f : ℕ) (h : i < n) (e : row_fault s p (rows_of n u) (row_in u i) ≡ f) where
-  more : faulty s p (rows_of n u) (i + 1) (drop i (rows_of n u)) ≡ or_else (record { number = f; place = i + 1 }) (faulty s p (rows_of n u) (i + 1 + 1) (drop (i + 1) (rows_of n u)))
+module _ (s : Sheet) (p : ℕ) (u : List ℕ) (i n : ℕ) where
+  more : (f : ℕ) → i < n → row_fault s p (rows_of n u) (row_in u i) ≡ f
+      → faulty s p (rows_of n u) (i + 1) (drop i (rows_of n u)) ≡ or_else (record { number = f; place = i + 1 }) (faulty s p (rows_of n u) (i + 1 + 1) (drop (i + 1) (rows_of n u)))
   unfolding faulty
-  more =
+  more f h e =
       ap (faulty s p (rows_of n u) (i + 1)) (rows_from_lem u n i h)
       ∙ ap₂ (λ f k. or_else (record { number = f; place = i + 1 }) (faulty s p (rows_of n u) k (drop (i + 1) (rows_of n u)))) e (let z : suc (i + 1) ≡ i + 1 + 1 = omega arith in z)
 
-  pub faults_hit : (f ≡ 0 → ⊥) → record { number = f; place = i + 1 } ≡ faulty s p (rows_of n u) (i + 1) (drop i (rows_of n u))
-  faults_hit g = sym (more ∙ rw (ne_eqb f 0 g))
+  pub faults_hit : (f : ℕ) → i < n → row_fault s p (rows_of n u) (row_in u i) ≡ f → (f ≡ 0 → ⊥)
+      → record { number = f; place = i + 1 } ≡ faulty s p (rows_of n u) (i + 1) (drop i (rows_of n u))
+  faults_hit f h e g = sym (more f h e ∙ rw (ne_eqb f 0 g))
 
-  pub faults_miss : f ≡ 0 → faulty s p (rows_of n u) (i + 1) (drop i (rows_of n u)) ≡ faulty s p (rows_of n u) (i + 1 + 1) (drop (i + 1) (rows_of n u))
-  faults_miss g = more ∙ rw g
+  pub faults_miss : i < n → row_fault s p (rows_of n u) (row_in u i) ≡ 0
+      → faulty s p (rows_of n u) (i + 1) (drop i (rows_of n u)) ≡ faulty s p (rows_of n u) (i + 1 + 1) (drop (i + 1) (rows_of n u))
+  faults_miss h e = more 0 h e
 
 pub faults_end : (s : Sheet) (p : ℕ) (u : List ℕ) (i n : ℕ) → n ≤ i → faulty s p (rows_of n u) (i + 1) (drop i (rows_of n u)) ≡ record { number = 0; place = 0 }
 unfolding faulty

@@ -1,5 +1,5 @@
 -- Rows as given, in a buffer of numbers, judged by the array of their ranks. Assumes nothing.
-use Rattle.std.specs.Prelude.{ℕ, suc, ◌*◌, ◌≤◌, ◌<◌, Bool, cond, List, [], map, length, get_or, leb, eqb}
+use Rattle.std.specs.Prelude.{ℕ, suc, ◌*◌, ◌≤◌, ◌<◌, Bool, cond, List, [], map, length, get_or, leb, eqb, Result, Ok, Err}
 use Rattle.bitml.specs.Lists.{ask, sum, every}
 use Rattle.bitml.specs.Runs.{own, next}
 use Rattle.bitml.specs.Rows as bitml
@@ -8,9 +8,10 @@ use Rattle.tables.specs.Entries.{Entries, held}
 use Rattle.tables.specs.SheetOf.{sheet_of, branch_of, branch_number, branch_numbers, part_numbers}
 use Rattle.buffer.specs.Buffer.{row_wide, row_in, filled}
 use Rattle.requests.specs.Rows.{RowFits, count_in, most_rows}
+use Rattle.refusals.specs.Numbers.{number}
 use Rattle.order.specs.Nodes.{has_by}
-use Rattle.rows.specs.declared.Checked.{Checked}
-use Rattle.rows.specs.declared.Checked.TheVariants.{Liquid, Refused}
+use Rattle.order.specs.declared.Fault.{Fault}
+use Rattle.rows.specs.declared.Accepted.{Accepted}
 
 -- "up to 512 lines `row`,node,branch,rank (1 to 65,535)": what the reader promises of n rows
 pub record RowsFit (t u : List ℕ) (n : ℕ) : Type 0 where
@@ -38,13 +39,16 @@ fault_by K E p A r =
 -- ---- the answer
 
 -- "`check` prints the `liquid` line or a refusal"; "`liquid` has participant, rows, rank of node 0"
+pub data Checked : Type 0 where
+  Liquid : ℕ → ℕ → Checked
+  Refused : ℕ → ℕ → Checked
+
 unfoldable pub answer_of : List Row → bitml.Fault → Checked
 answer_of R f = cond (eqb f.number 0) (Liquid (length R) (rank_of R 0)) (Refused f.number f.place)
 
--- How many places of the buffer stay
-unfoldable pub kept_of : Checked → ℕ → ℕ
-kept_of (Liquid c k) n = n
-kept_of (Refused m i) n = 0
+abbrev pub as_checked : Result Accepted Fault → Checked
+as_checked (Ok r) = Liquid r.count r.rank
+as_checked (Err f) = Refused (number f.refusal) f.place
 
 -- "The row buffer holds the rows (for `check` as given) and is zero past them; it is wholly zero after .. a refused request": a buffer
 -- of so many numbers

@@ -1,15 +1,17 @@
 -- Tables whose cells are the same as far as they are filled hold the same sheet, and no others do. Assumes nothing.
 use Prim.Native.Nat.{ℕ, zero, suc, ◌+◌, ◌-◌, ◌*◌, ◌≤◌, ◌<◌}
 use mathlib.Core.Path.{◌≡◌, refl, sym, ap, ap₂, ◌∙◌, subst}
-use mathlib.Core.Bool.{Bool, true, false, false≢true}
+use mathlib.Core.Bool.{Bool, true, false, ◌&&◌, false≢true}
 use mathlib.Core.List.{List, [], ◌∷◌, ◌++◌}
 use native.Mathlib.Omega.{arith}
-use lib.ListN.{length, get_or}
+use lib.ListN.{length, get_or, take, drop}
+use lib.Pointwise.{pointwise}
+use lib.Seq.{drop-cons}
 use lib.Dec.{eqb}
-use borrow.Author.Tests.{eqb-true, eq-eqb, ne_eqb}
+use borrow.Author.Tests.{eqb-true, eq-eqb}
 use Rattle.bitml.specs.Lists.{◌&◌}
-use Rattle.bitml.proofs.Lists.{is_false, and_l, and_r, and_i, and_false, and_true, and-end, and_assoc}
-use Rattle.tables.specs.Entries.{Entries, first_of, node_in, branch_in, def_in, listed_in, cell_in, held, people, node_wide, branch_wide, def_wide, nodes_from, branches_from, defs_from, listed_from, cells_from}
+use Rattle.bitml.proofs.Lists.{is_false, and_l, and_r, and_i, and_true, and-end, and_assoc}
+use Rattle.tables.specs.Entries.{Entries, first_of, node_in, branch_in, def_in, listed_in, cell_in, held, node_wide, branch_wide, def_wide, nodes_from, branches_from, defs_from, listed_from, cells_from}
 use Rattle.tables.proofs.Runs.{first_of-length}
 use Rattle.writing.specs.Writable.{same_all, same_node, same_branch, same_def, same_entries}
 use Rattle.writing.proofs.Same.{same-is}
@@ -24,6 +26,11 @@ all_more same [] [] x y e = and-end (same x y)
 all_more same [] (b ∷ ys) x y e = absurd (omega arith)
 all_more same (a ∷ xs) [] x y e = absurd (omega arith)
 all_more same (a ∷ xs) (b ∷ ys) x y e = ap (λ z. same a b & z) (all_more same xs ys x y (omega arith)) ∙ sym (and_assoc (same a b) (same_all same xs ys) (same x y))
+
+and_same : (a b : Bool) → (a && b) ≡ (a & b)
+unfolding ◌&◌
+and_same true b = refl
+and_same false b = refl
 
 module _ (u t : List ℕ) where
   -- ---- cells
@@ -45,25 +52,17 @@ module _ (u t : List ℕ) where
   unfolding same_cells
   cell-last from = and-end (eqb (get_or u from 0) (get_or t from 0))
 
-  -- i of n cells are compared, and there are more: the next differs, or not
-  next-cell : (from n i : ℕ) → i < n
-      → same_cells (from + i) (n - i) u t ≡ (eqb (get_or u (from + i) 0) (get_or t (from + i) 0) & same_cells (from + (i + 1)) (n - (i + 1)) u t)
-  next-cell from n i l =
-      let z : n - i ≡ suc (n - (i + 1)) = omega arith in
-      ap (λ k. same_cells (from + i) k u t) z ∙ cell_then (from + i) (from + (i + 1)) (n - (i + 1)) _ (omega arith) refl
+  -- two slices, of which neither ends before n cells
+  cells-same : (from n : ℕ) → from + n ≤ length u → from + n ≤ length t → pointwise eqb (take n (drop from u)) (take n (drop from t)) ≡ same_cells from n u t
+  unfolding same_cells ◌&◌
+  cells-same from zero h k = refl
+  cells-same from (suc n) h k =
+      let i : from < length u = omega arith in
+      let j : from < length t = omega arith in
+      rw (drop-cons u from 0 i, drop-cons t from 0 j) (and_same (eqb (get_or u from 0) (get_or t from 0)) _ ∙ ap (λ b. eqb (get_or u from 0) (get_or t from 0) & b) (cells-same (suc from) n (omega arith) (omega arith)))
 
-  pub cells_no : (from n i : ℕ) → i < n → (get_or u (from + i) 0 ≡ get_or t (from + i) 0 → ⊥) → same_cells (from + i) (n - i) u t ≡ false
-  cells_no from n i l h = next-cell from n i l ∙ and_false _ _ (ne_eqb _ _ h)
-
-  pub cells-on : (from n i : ℕ) → i < n → get_or u (from + i) 0 ≡ get_or t (from + i) 0 → same_cells (from + i) (n - i) u t ≡ same_cells (from + (i + 1)) (n - (i + 1)) u t
-  cells-on from n i l h = next-cell from n i l ∙ and_true _ _ (eq-eqb _ _ h)
-
-  pub cells-end : (from n i : ℕ) → n ≤ i → same_cells (from + i) (n - i) u t ≡ true
-  unfolding same_cells
-  cells-end from n i l = ap (λ k. same_cells (from + i) k u t) (let z : n - i ≡ 0 = omega arith in z)
-
-  pub cells-start : (from n : ℕ) → same_cells (from + 0) (n - 0) u t ≡ same_cells from n u t
-  cells-start from n = ap₂ (λ a b. same_cells a b u t) (let z : from + 0 ≡ from = omega arith in z) (let z : n - 0 ≡ n = omega arith in z)
+  pub slices-same : (from n : ℕ) → from + n ≤ length u → from + n ≤ length t → pointwise eqb (take (from + n - from) (drop from u)) (take (from + n - from) (drop from t)) ≡ same_cells from n u t
+  slices-same from n h k = let z : from + n - from ≡ n = omega arith in rw z (cells-same from n h k)
 
   -- ---- sections: n entries of k cells each
 

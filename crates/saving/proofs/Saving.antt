@@ -1,23 +1,25 @@
 -- How the reply of writing comes from what its steps give. Assumes nothing.
 use Prim.Native.Nat.{ℕ, ◌+◌, ◌≤◌, ◌<◌}
-use mathlib.Core.Path.{◌≡◌, refl, sym, ap, ap₂, ◌∙◌}
+use mathlib.Core.Path.{◌≡◌, sym, ap, ap₂, ◌∙◌}
 use mathlib.Core.Bool.{Bool, true, false}
 use mathlib.Core.Option.{some}
+use mathlib.Core.Logic.{by_cases}
+use native.Mathlib.Decide.{dec_le}
+use Rattle.std.specs.Prelude.{Some, None, option_map}
 use mathlib.Core.List.{List, ◌++◌}
 use native.Mathlib.Omega.{arith}
 use lib.ListN.{length, get_or, drop, take-append-drop}
 use lib.Dec.{eqb, leb}
-use borrow.Author.Tests.{eq-eqb, ne_eqb, leb-true, leb-false, le-leb, lt-leb}
+use borrow.Author.Tests.{eq-eqb, ne_eqb, le-leb, lt-leb}
 use Rattle.bitml.specs.Lists.{◌&◌}
 use Rattle.bitml.proofs.Lists.{and_false, and_true, and_no}
-use Rattle.fields.specs.declared.Got.{Got}
-use Rattle.fields.specs.declared.Got.TheVariants.{Value, Bad}
+use Rattle.fields.specs.Field.{Got}
+use Rattle.fields.specs.Field.{Value, Bad}
 use Rattle.tables.specs.Entries.{Entries, held, people, cell_in, cells_from, table_long, Spacious, Within}
 use Rattle.tables.proofs.Runs.{first_of-length}
 use Rattle.lines.specs.Sheet.{read_sheet, answered, WhenAccepted}
 use Rattle.reading.proofs.Sizes.{sizes-within}
 use Rattle.ranges.proofs.Reading.{sheet-paid}
-use Rattle.texts.specs.Text.{line}
 use Rattle.texts.specs.Wrote.{Wrote}
 use Rattle.replies.specs.declared.Reply.{Reply}
 use Rattle.writing.specs.Written.{sheet_text}
@@ -35,42 +37,34 @@ not_within t h = not_sized (people t) (held t) λ z. h (sizes-within t z)
 
 -- ---- the text that was put, and reading it
 
-module _ (xs : List ℕ) where
-  pub short-few : length (short xs) ≤ 32768
-  short-few = go (leb (length xs) 32768) refl
-    where
-      go : (b : Bool) → leb (length xs) 32768 ≡ b → length (short xs) ≤ 32768
-      go true h = rw (short-same xs (leb-true _ _ h)) (leb-true (length xs) 32768 h)
-      go false h = rw (short_none xs (leb-false _ _ h)) (omega arith)
+-- m bytes of text were put, xs
+pub record Put (text : List ℕ) (m : ℕ) (xs : List ℕ) : Type 0 where
+  pub is : xs ≡ text
+  pub long : m ≡ length text
+  pub few : length text ≤ 32768
 
-sheet-some : (K : ℕ) (E : Entries) → 1 ≤ length (sheet_text K E)
-unfolding sheet_text line
-sheet-some K E = omega arith
+module _ (text : List ℕ) where
+  pub was_put : {m : ℕ} {xs : List ℕ} → Some m ≡ option_map (λ ys. length ys) (short text) → Some xs ≡ short text → Put text m xs
+  was_put {m} {xs} h k =
+      by_cases (dec_le (length text) 32768)
+      (λ l.
+      let e = short-same text l in
+      let i : Some xs ≡ Some text = k ∙ e in
+      let j : Some m ≡ Some (length text) = h ∙ ap (option_map (λ ys. length ys)) e in
+      record { is = cc; long = cc; few = l })
+      (λ l. let e : Some xs ≡ None = k ∙ short_none text (omega arith) in cc)
 
--- m bytes of text were put
-module _ (K : ℕ) (E : Entries) (m : ℕ) (e : m ≡ length (short (sheet_text K E))) where
-  pub nothing_put : m ≡ 0 → writable K E ≡ false
-  nothing_put z = go (leb (length (sheet_text K E)) 32768) refl
-    where
-      go : (b : Bool) → leb (length (sheet_text K E)) 32768 ≡ b → writable K E ≡ false
-      go true h = let n = ap (λ xs. length xs) (short-same (sheet_text K E) (leb-true _ _ h)) in absurd (omega (arith, n, sheet-some K E))
-      go false h = not-writable K E (leb-false _ _ h)
+  pub not_put : None ≡ short text → 32768 < length text
+  not_put k = by_cases (dec_le (length text) 32768) (λ l. let e : None ≡ Some text = k ∙ short-same text l in cc) (λ l. omega arith)
 
-  -- all of it
-  pub all-put : (m ≡ 0 → ⊥) → short (sheet_text K E) ≡ sheet_text K E
-  all-put z = go (leb (length (sheet_text K E)) 32768) refl
-    where
-      go : (b : Bool) → leb (length (sheet_text K E)) 32768 ≡ b → short (sheet_text K E) ≡ sheet_text K E
-      go true h = short-same (sheet_text K E) (leb-true _ _ h)
-      go false h = absurd (z (e ∙ ap (λ xs. length xs) (short_none (sheet_text K E) (leb-false _ _ h))))
+module _ (K : ℕ) (E : Entries) where
+  pub nothing_put : None ≡ short (sheet_text K E) → writable K E ≡ false
+  nothing_put k = not-writable K E (not_put (sheet_text K E) k)
 
-  pub put-long : (m ≡ 0 → ⊥) → m ≡ length (sheet_text K E)
-  put-long z = e ∙ ap (λ xs. length xs) (all-put z)
-
-  -- and so it was the text that was read
-  pub put-writable : (s : List ℕ) (b : Bool) → (m ≡ 0 → ⊥) → s ≡ short (sheet_text K E) → b ≡ read_as (length s) K E (read_sheet s) → writable K E ≡ b
+  -- it was the text that was read
+  pub put-writable : {s : List ℕ} {b : Bool} → s ≡ sheet_text K E → b ≡ read_as (length s) K E (read_sheet s) → writable K E ≡ b
   unfolding writable
-  put-writable s b z q r = ap (λ x. read_as (length x) K E (read_sheet x)) (sym (q ∙ all-put z)) ∙ sym r
+  put-writable q r = ap (λ x. read_as (length x) K E (read_sheet x)) (sym q) ∙ sym r
 
 -- u is the table after reading s
 module _ (s u t : List ℕ) (g : Got) (h : (answered g u ≡ read_sheet s) × WhenAccepted s g u) where

@@ -12,7 +12,7 @@ use Rattle.bitml.specs.Lists.{below}
 use Rattle.bitml.proofs.Lists.{keep_all, keep_imp, up_mem, mem-keep, mem_up}
 use Rattle.bucket.specs.Bucket.{key_at, Keys, Buckets, bucket_of}
 use Rattle.bucket.proofs.Laws.{buckets_frame}
-use Rattle.bucket.proofs.Find.{bucket_rise, bucket_size, bucket_behind, bucket_room}
+use Rattle.bucket.proofs.Find.{bucket_rise, bucket_size, bucket_behind, bucket_room, bucket_slice}
 use Rattle.tables.specs.Entries.{Entries, held, people, node_wide, branch_wide, nodes_from, branches_from, most_nodes, most_branches}
 use Rattle.tables.specs.SheetOf.{node_entry_at, branch_entry_at, branch_numbers, branch_count, branch_number, part_numbers, part_count, part_number}
 use Rattle.tables.proofs.SheetOf.{all_in}
@@ -24,6 +24,15 @@ module _ (E : Entries) (x : List ℕ) (w : Indexed E x) where
   pub branch-at : (n i : ℕ) → n < most_nodes → i < branch_count E n → branch_number E n i ≡ get_or x (branches_by + get_or x n 0 + i) 0
   unfolding branch_count branch_number branch_numbers bucket_of
   branch-at n i h l = bucket_behind _ _ _ _ x branches_by w.branches n i h l
+
+  pub branch-rise : (n : ℕ) → n < most_nodes → get_or x n 0 ≤ get_or x (n + 1) 0
+  branch-rise n h = bucket_rise _ _ _ _ _ w.branches n h
+
+  -- a node's branches, a branch's parts, as slices
+  pub branch_slice : (n : ℕ) → length E.branches ≤ most_branches → n < most_nodes
+      → take (branches_by + get_or x (n + 1) 0 - (branches_by + get_or x n 0)) (drop (branches_by + get_or x n 0) x) ≡ branch_numbers E n
+  unfolding branch_numbers bucket_of
+  branch_slice n l h = bucket_slice _ _ _ x x branches_by w.branches n h (omega (arith, w.long))
 
   pub branch-room : (n i : ℕ) → n < most_nodes → i < branch_count E n → get_or x n 0 + i < length E.branches
   unfolding branch_count branch_numbers bucket_of
@@ -43,6 +52,22 @@ module _ (E : Entries) (x : List ℕ) (w : Indexed E x) where
   unfolding part_count part_number part_numbers bucket_of
   part_at b i h l = bucket_behind _ _ _ _ x parts_by w.parts b i h l ∙ ap (λ k. get_or x (parts_by + k + i) 0) (part_start b)
 
+  -- where a branch's parts start, and where they end
+  pub part_from : (b : ℕ) → get_or x (parts_from + b) 0 ≡ get_or (drop parts_from x) b 0
+  part_from b = sym (part_start b)
+
+  pub part_to : (b : ℕ) → get_or x (parts_from + b + 1) 0 ≡ get_or (drop parts_from x) (b + 1) 0
+  part_to b = ap (λ i. get_or x i 0) (let z : parts_from + b + 1 ≡ parts_from + (b + 1) = omega arith in z) ∙ sym (part_start (b + 1))
+
+  pub part_slice : (b : ℕ) → length E.nodes ≤ most_nodes → b < most_branches + 1
+      → take (parts_by + get_or x (parts_from + b + 1) 0 - (parts_by + get_or x (parts_from + b) 0)) (drop (parts_by + get_or x (parts_from + b) 0) x) ≡ part_numbers E b
+  unfolding part_numbers bucket_of
+  part_slice b l h = rw (part_from b, part_to b) (bucket_slice _ _ _ (drop parts_from x) x parts_by w.parts b h (omega (arith, w.long)))
+
+  pub part_bounds : (b : ℕ) → length E.nodes ≤ most_nodes → b < most_branches + 1
+      → (get_or x (parts_from + b) 0 ≤ get_or x (parts_from + b + 1) 0) × (parts_by + get_or x (parts_from + b + 1) 0 ≤ length x)
+  part_bounds b l h = (omega (arith, part_from b, part_to b, bucket_rise _ _ _ _ _ w.parts b h), omega (arith, part_to b, w.parts.within (b + 1) (omega arith), w.long))
+
   pub part_room : (b i : ℕ) → b < most_branches + 1 → i < part_count E b → get_or x (parts_from + b) 0 + i < length E.nodes
   unfolding part_count part_numbers bucket_of
   part_room b i h l = omega (arith, part_start b, bucket_room _ _ _ _ _ w.parts b i h l)
@@ -60,6 +85,11 @@ module _ (E : Entries) (y : List ℕ) (w : Named E y) where
   pub namer_at : (a i : ℕ) → a < most_nodes → i < length (namers E a) → get_or (namers E a) i 0 ≡ get_or y (branches_by + get_or y a 0 + i) 0
   unfolding namers
   namer_at a i h l = bucket_behind _ _ _ _ y branches_by w.branches a i h l
+
+  pub namer_slice : (a : ℕ) → length E.branches ≤ most_branches → a < most_nodes
+      → take (branches_by + get_or y (a + 1) 0 - (branches_by + get_or y a 0)) (drop (branches_by + get_or y a 0) y) ≡ namers E a
+  unfolding namers
+  namer_slice a l h = bucket_slice _ _ _ y y branches_by w.branches a h (omega (arith, w.long))
 
   pub namer_room : (a i : ℕ) → a < most_nodes → i < length (namers E a) → get_or y a 0 + i < length E.branches
   unfolding namers

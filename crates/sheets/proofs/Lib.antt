@@ -1,2 +1,3 @@
 pub mod Indexing
 pub mod Bits
+pub mod Chains

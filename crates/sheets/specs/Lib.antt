@@ -1,1 +1,3 @@
 pub mod Ready
+pub mod Once
+pub mod Looked

@@ -15,26 +15,26 @@ use Rattle.bitml.specs.Rows.{Row}
 use Rattle.bitml.specs.Ledger.{wait, sign, tell, fire, renew}
 use Rattle.bitml.proofs.Lists.{gather_append}
 use Rattle.fields.specs.Field.{comma, spelled, packed, packed_of, when_read, any_number, number_at, below_at, between_at, word_at, first_at, line_end_at}
-use Rattle.fields.specs.declared.Got.{Got}
-use Rattle.fields.specs.declared.Got.TheVariants.{Value, Bad}
+use Rattle.fields.specs.Field.{Got}
+use Rattle.fields.specs.Field.{Value, Bad}
 use Rattle.fields.proofs.Laws.{number-end, word_end}
 use Rattle.fields.proofs.Words.{Bytes}
 use Rattle.fields.proofs.Ranges.{when_read-cases, cond_cases, never, first-end, line-end-next}
 use Rattle.buffer.specs.Buffer.{row}
-use Rattle.requests.specs.declared.Commitment.{Commitment}
-use Rattle.requests.specs.declared.Commitment.TheVariants as commitment
-use Rattle.requests.specs.declared.Part.{Part}
-use Rattle.requests.specs.declared.Part.TheVariants as part
-use Rattle.requests.specs.declared.RowLine.{RowLine}
-use Rattle.requests.specs.declared.RowLine.TheVariants as rowline
+use Rattle.requests.specs.Commitment.{Commitment}
+use Rattle.requests.specs.Commitment as commitment
+use Rattle.requests.specs.LastPart.{Part}
+use Rattle.requests.specs.LastPart as part
+use Rattle.requests.specs.RowLine.{RowLine}
+use Rattle.requests.specs.RowLine as rowline
 use Rattle.requests.specs.Part.{most_value, value_at, past_of, past_value_at, past_values_at, participant_at, last_participant_at, make_at, make_all_at, why_at, check_at, play_at, last_part_at}
 use Rattle.requests.specs.Rows.{most_rank, Rows, rows_with, row_numbers_at, row_at, no_room_at, with_line, rows_from, rows_at}
-use Rattle.events.specs.declared.Event.{Event}
-use Rattle.events.specs.declared.Event.TheVariants as event
-use Rattle.events.specs.declared.Pair.{Pair}
-use Rattle.events.specs.declared.Pair.TheVariants as pair
-use Rattle.events.specs.declared.Lines.{Lines}
-use Rattle.events.specs.declared.Lines.TheVariants as lines
+use Rattle.events.specs.Event.{Event}
+use Rattle.events.specs.Event as event
+use Rattle.events.specs.Pair.{Pair}
+use Rattle.events.specs.Pair as pair
+use Rattle.events.specs.Lines.{Lines}
+use Rattle.events.specs.Lines as lines
 use Rattle.events.specs.Events.{most_wait, most_field, most_values, pair_at, after_pair, last_pair_at, wait_at, sign_at, tell_at, fire_at, values_from, values_at, renew_at, event_at, next_of, events_from, events_at}
 use Rattle.events.proofs.Sound.{pair_cases, values-sound, event_ahead}
 use Rattle.ledger.specs.Values.{value_of, behind, values_of}

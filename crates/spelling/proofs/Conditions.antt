@@ -6,7 +6,7 @@ use native.Mathlib.Omega.{arith}
 use borrow.Author.Tests.{eqb-false}
 use Rattle.bitml.specs.Sheet.{number, secret, add, sub, Cond, always, both, neg, equal, less}
 use Rattle.fields.specs.Field.{comma, number_at, word_at, any_number}
-use Rattle.fields.specs.declared.Got.TheVariants.{Value}
+use Rattle.fields.specs.Field.{Value}
 use Rattle.fields.proofs.Laws.{number-end, word_end}
 use Rattle.fields.proofs.Words.{Bytes}
 use Rattle.tables.specs.State.{State, with_cell}

@@ -10,7 +10,7 @@ use Rattle.bitml.specs.Lists.{◌&◌, gather, All, nil, cons, keep, up_from, be
 use Rattle.bitml.specs.Sheet.{Sheet, Cond, Branch as Drawn, branches_at, parts}
 use Rattle.bitml.proofs.Lists.{gather-map}
 use Rattle.fields.specs.Field.{comma, packed, packed_of, number_at, word_at, any_number}
-use Rattle.fields.specs.declared.Got.TheVariants.{Value}
+use Rattle.fields.specs.Field.{Value}
 use Rattle.fields.proofs.Words.{Bytes}
 use Rattle.tables.specs.Codes.{withdraw_kind, split_kind, reveal_kind, renew_kind}
 use Rattle.tables.specs.declared.Head.{Head}

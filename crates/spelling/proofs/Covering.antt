@@ -7,7 +7,7 @@ use lib.ListN.{length, length-append}
 use Rattle.bitml.specs.Lists.{up_from}
 use Rattle.bitml.proofs.Counting.{up_split}
 use Rattle.fields.specs.Field.{comma, number_at, word_at}
-use Rattle.fields.specs.declared.Got.TheVariants.{Value}
+use Rattle.fields.specs.Field.{Value}
 use Rattle.fields.proofs.Laws.{number-end, word_end}
 use Rattle.fields.proofs.Words.{Bytes}
 use Rattle.tables.specs.Entries.{Entries}

@@ -7,7 +7,7 @@ use lib.ListN.{length, get_or, length-append, get_or-append}
 use lib.Seq.{get_or-append-add}
 use Rattle.bitml.specs.Lists.{up_from}
 use Rattle.fields.specs.Field.{number_at, any_number}
-use Rattle.fields.specs.declared.Got.TheVariants.{Value}
+use Rattle.fields.specs.Field.{Value}
 use Rattle.fields.proofs.Laws.{number-end}
 use Rattle.tables.specs.Entries.{Entries}
 use Rattle.tables.specs.SheetOf.{listed_at}

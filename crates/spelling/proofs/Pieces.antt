@@ -14,7 +14,7 @@ use Rattle.bitml.specs.Lists.{gather, All, up_from}
 use Rattle.bitml.specs.Sheet.{Sheet, branches_at}
 use Rattle.bitml.proofs.Lists.{all_head, all_tail}
 use Rattle.fields.specs.Field.{comma, lf, is_sep, field_len, number_at}
-use Rattle.fields.specs.declared.Got.TheVariants.{Value}
+use Rattle.fields.specs.Field.{Value}
 use Rattle.texts.specs.Text.{field, fields}
 use Rattle.writing.proofs.Numbers.{field_reads}
 use Rattle.spelling.specs.Legible.{Short}

@@ -10,20 +10,20 @@ use borrow.Author.Tests.{le-leb}
 use Rattle.bitml.specs.Lists.{gather}
 use Rattle.bitml.specs.Rows.{Row}
 use Rattle.bitml.specs.Answers.{making, making_all, explaining, checking, playing, answer}
-use Rattle.fields.specs.declared.Got.{Got}
-use Rattle.fields.specs.declared.Got.TheVariants as got
+use Rattle.fields.specs.Field.{Got}
+use Rattle.fields.specs.Field as got
 use Rattle.fields.proofs.Words.{Bytes}
 use Rattle.tables.specs.Entries.{Entries}
 use Rattle.tables.specs.SheetOf.{node_entry_at, def_entry_at, sheet_of}
 use Rattle.buffer.specs.Buffer.{places_of_all}
 use Rattle.lines.specs.Sheet.{SheetRead, accepted, read_sheet}
 use Rattle.lines.specs.Sheet.{refused as unread}
-use Rattle.requests.specs.declared.Part.{Part}
-use Rattle.requests.specs.declared.Part.TheVariants as part
+use Rattle.requests.specs.LastPart.{Part}
+use Rattle.requests.specs.LastPart as part
 use Rattle.requests.specs.Part.{last_part_at}
 use Rattle.requests.specs.Rows.{most_rows, rows_at}
-use Rattle.events.specs.declared.Lines.{Lines}
-use Rattle.events.specs.declared.Lines.TheVariants as lines
+use Rattle.events.specs.Lines.{Lines}
+use Rattle.events.specs.Lines as lines
 use Rattle.events.specs.Events.{events_at}
 use Rattle.reading.specs.Request.{Reading, LastPart, make, make_all, why, check, play, request, refused, refused_at, from_rows, from_lines, from_part, from_sheet, read_request}
 use Rattle.ledger.specs.Values.{values_of}

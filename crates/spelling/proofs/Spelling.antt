@@ -12,8 +12,8 @@ use Rattle.tables.specs.SheetOf.{def_of, sheet_of}
 use Rattle.tables.specs.State.{State, entries}
 use Rattle.tables.proofs.SheetOf.{participants-are, defs-are}
 use Rattle.steps.proofs.Ends.{refused, ends-both}
-use Rattle.lines.specs.declared.LineOne.{LineOne}
-use Rattle.lines.specs.declared.LineOne.TheVariants.{Counts, Bad}
+use Rattle.lines.specs.LineOne.{LineOne}
+use Rattle.lines.specs.LineOne.{Counts, Bad}
 use Rattle.lines.specs.LineOne.{line_one_at}
 use Rattle.lines.specs.Definition.{blank}
 use Rattle.lines.specs.Sheet.{accepted, sizes, sheet_from, read_sheet}

@@ -3,8 +3,8 @@ use Prim.Native.Nat.{ℕ, zero, suc, ◌<◌}
 use mathlib.Core.Path.{◌≡◌, refl, subst}
 use mathlib.Core.Bool.{Bool, true, false}
 use native.Mathlib.Omega.{arith}
-use Rattle.fields.specs.declared.Got.{Got}
-use Rattle.fields.specs.declared.Got.TheVariants as got
+use Rattle.fields.specs.Field.{Got}
+use Rattle.fields.specs.Field as got
 use Rattle.tables.specs.State.{State}
 use Rattle.steps.specs.Steps.{Outcome, next, bad, to_place, go_on, either, and_then, times}
 

@@ -1,11 +1,12 @@
 -- How reading goes on. "Reading stops at its first bad field": a step gives the state after it, or a refusal. Assumes nothing.
 use Rattle.std.specs.Prelude.{ℕ, zero, suc, ◌≡◌, List, Bool, true, false}
-use Rattle.fields.specs.declared.Got.{Got}
-use Rattle.fields.specs.declared.Got.TheVariants as got
+use Rattle.std.specs.Prelude.{Result, Ok, Err}
+use Rattle.refusals.specs.Numbers.{number}
+use Rattle.fields.specs.declared.Refused.{Refused}
+use Rattle.fields.specs.Field.{Got}
+use Rattle.fields.specs.Field as got
 use Rattle.tables.specs.declared.St.{St}
 use Rattle.tables.specs.State.{State, state_of}
-use Rattle.steps.specs.declared.Read.{Read}
-use Rattle.steps.specs.declared.Read.TheVariants.{Value, Bad}
 
 -- the state after a step; or a refusal's number and the position before its field
 pub data Outcome : Type 0 where
@@ -39,6 +40,20 @@ times zero f a = next a
 times (suc n) f a = and_then (f a) (times n f)
 
 -- ---- what the code answers
+
+-- a value and the state after it; or a refusal's number and the position before its field
+pub data Read : Type 0 where
+  Value : ℕ → St → Read
+  Bad : ℕ → ℕ → Read
+
+abbrev pub told : Result (ℕ × St) Refused → Read
+told (Ok r) = Value r.0 r.1
+told (Err e) = Bad (number e.refusal) e.at
+
+-- the state alone
+abbrev pub told_state : Result St Refused → Read
+told_state (Ok st) = Value 0 st
+told_state (Err e) = Bad (number e.refusal) e.at
 
 abbrev pub at_place : St → ℕ → St
 at_place st e = record { at = e; nodes = st.nodes; branches = st.branches; defs = st.defs; listed = st.listed; cells = st.cells }

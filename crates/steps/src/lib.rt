@@ -2,73 +2,76 @@
 
 #![tactic(auto)]
 
-ghost use Rattle.std.specs.Prelude.{◌≡◌};
 ghost use Rattle.fields.specs.Field.{number_at, word_at, first_at, line_end_at};
-ghost use Rattle.steps.specs.Steps.{moved};
+ghost use Rattle.std.specs.Prelude.{◌≡◌};
+ghost use Rattle.tables.specs.Entries.{Spacious};
+ghost use Rattle.steps.specs.Steps.{moved, told, told_state};
 
-use fields::Got;
-use reader::{first_from, line_end_from, number_up_to, word_from};
+use fields::Refused;
+use reader::Reader;
+use refusals::Refusal;
 use tables::St;
 
-// A value and the state after it; or a refusal's number and the position before its field.
-#[derive(Clone, Copy)]
-pub enum Read {
-    Value(usize, St),
-    Bad(usize, usize),
+// A request, and the table that its sheet is read into: the table has room for the request's conditions.
+// The state stands beside it: each reader asks something else of the state, and hands on a new one.
+#[derive(Drop)]
+pub struct Filling<'a> {
+    pub request: &'a [u8],
+    pub table: &'a mut [usize],
+    pub ghost spacious: { Spacious request.now table.now },
 }
 
-// The state after a field.
-pub fn move_on(st: St, g: Got) -> Read
-    ensures { result ≡ moved st g }
+// The next field as a number up to max, and the state after it.
+pub fn num(s: &[u8], st: St, max: usize) -> Result<(usize, St), Refused>
+    ensures { told result ≡ moved st (number_at s.now st.at max) }
 {
-    match g {
-        Got::Value(v, e) => Read::Value(
-            v,
-            St {
-                at: e,
-                nodes: st.nodes,
-                branches: st.branches,
-                defs: st.defs,
-                listed: st.listed,
-                cells: st.cells,
-            },
-        ),
-        Got::Bad(n, p) => Read::Bad(n, p),
+    let (v, at) = Reader {
+        request: s,
+        at: st.at,
     }
-}
-
-// The next field as a number up to max.
-pub fn num(s: &[u8], st: St, max: usize) -> Read
-    ensures { result ≡ moved st (number_at s.now st.at max) }
-{
-    let at = st.at;
-    let g = number_up_to(s, at, max);
-    move_on(st, g)
+    .number_up_to(max)?;
+    Ok((v, St { at, ..st }))
 }
 
 // The next field as a word.
-pub fn letters(s: &[u8], st: St) -> Read
-    ensures { result ≡ moved st (word_at s.now st.at) }
+pub fn letters(s: &[u8], st: St) -> Result<(usize, St), Refused>
+    ensures { told result ≡ moved st (word_at s.now st.at) }
 {
-    let at = st.at;
-    let g = word_from(s, at);
-    move_on(st, g)
+    let (w, at) = Reader {
+        request: s,
+        at: st.at,
+    }
+    .word()?;
+    Ok((w, St { at, ..st }))
 }
 
 // A line's first field as a word.
-pub fn first_word(s: &[u8], st: St) -> Read
-    ensures { result ≡ moved st (first_at s.now st.at) }
+pub fn first_word(s: &[u8], st: St) -> Result<(usize, St), Refused>
+    ensures { told result ≡ moved st (first_at s.now st.at) }
 {
-    let at = st.at;
-    let g = first_from(s, at);
-    move_on(st, g)
+    let (w, at) = Reader {
+        request: s,
+        at: st.at,
+    }
+    .first()?;
+    Ok((w, St { at, ..st }))
 }
 
 // The end of a line.
-pub fn end_line(s: &[u8], st: St) -> Read
-    ensures { result ≡ moved st (line_end_at s.now st.at) }
+pub fn end_line(s: &[u8], st: St) -> Result<St, Refused>
+    ensures { told_state result ≡ moved st (line_end_at s.now st.at) }
 {
-    let at = st.at;
-    let g = line_end_from(s, at);
-    move_on(st, g)
+    let at = Reader {
+        request: s,
+        at: st.at,
+    }
+    .line_end()?;
+    Ok(St { at, ..st })
+}
+
+// What refuses the field that is due.
+pub fn refused(st: St, refusal: Refusal) -> Refused
+    ensures { result ≡ record { refusal = refusal; at = st.at } }
+{
+    Refused { refusal, at: st.at }
 }

@@ -1,13 +1,14 @@
 -- Laws of the table: what the sections hold, and an entry more in each. Assumes nothing.
-use Prim.Native.Nat.{ℕ, ◌+◌, ◌*◌, ◌<◌, ◌≤◌}
-use mathlib.Core.Path.{◌≡◌}
+use Prim.Native.Nat.{ℕ, zero, suc, ◌+◌, ◌-◌, ◌*◌, ◌<◌, ◌≤◌}
+use mathlib.Core.Path.{◌≡◌, sym, ap}
 use mathlib.Core.List.{List, [], ◌∷◌}
-use mathlib.Core.Bool.{true, false}
+use mathlib.Core.Bool.{false, ◌||◌}
 use native.Mathlib.Numerals.{add-one}
 use native.Mathlib.Omega.{arith}
 use lib.ListN.{length, get_or, drop, drop_of_length-le}
 use lib.Seq.{sets, drop-cons}
-use borrow.Author.Tests.{eq-eqb, ne_eqb}
+use lib.Dec.{eqb}
+use Rattle.std.specs.List.{list_any, range_with_len}
 use Rattle.tables.specs.declared.St.{St}
 use Rattle.tables.specs.declared.Head.{Head}
 use Rattle.tables.specs.declared.Action.{Action}
@@ -121,10 +122,10 @@ pub cells-length : (n : ℕ) (t : List ℕ) → length (cells_of n t) ≡ n
 unfolding cells_of
 cells-length n t = first_of-length (cell_in t) n
 
--- ---- looking among the listed numbers, place by place
+-- ---- looking among the listed numbers
 
 module _ (t : List ℕ) (v i n : ℕ) where
-  pub among-end : n ≤ i → among v (since i (listed_of n t)) ≡ false
+  among-end : n ≤ i → among v (since i (listed_of n t)) ≡ false
   unfolding among since
   among-end h =
       let l : length (listed_of n t) ≤ i = rw (listed-length n t) h in
@@ -136,10 +137,8 @@ module _ (t : List ℕ) (v i n : ℕ) where
       let l : i < length (first_of (listed_in t) n) = rw (first_of-length (listed_in t) n) h in
       rw (add-one, drop-cons (first_of (listed_in t) n) i 0 l, first_of_get_d (listed_in t) n i 0 h)
 
-  pub among-here : i < n → get_or t (listed_from + i) 0 ≡ v → among v (since i (listed_of n t)) ≡ true
-  unfolding among since
-  among-here h e = rw (listed-drop h, eq-eqb _ _ e)
-
-  pub among-more : i < n → (get_or t (listed_from + i) 0 ≡ v → ⊥) → among v (since i (listed_of n t)) ≡ among v (since (i + 1) (listed_of n t))
-  unfolding among since
-  among-more h e = rw (listed-drop h, ne_eqb _ _ e)
+-- k numbers from place i on
+pub among-range : (t : List ℕ) (v k i n : ℕ) → n - i ≡ k → list_any (λ j. eqb (get_or t (listed_from + j) 0) v) (range_with_len i k) ≡ among v (since i (listed_of n t))
+unfolding among since
+among-range t v zero i n e = sym (among-end t v i n (omega arith))
+among-range t v (suc k) i n e = rw (listed-drop t v i n (omega arith)) (ap (λ b. eqb (get_or t (listed_from + i) 0) v || b) (among-range t v k (i + 1) n (omega arith)))

@@ -1,4 +1,5 @@
 pub mod Codes
+pub mod Kinds
 pub mod Entries
 pub mod State
 pub mod SheetOf

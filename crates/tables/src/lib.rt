@@ -4,6 +4,7 @@
 
 ghost use Rattle.std.specs.Prelude.{◌≡◌, ◌+◌, ◌^◌, ◌≤◌, ◌<◌, length};
 ghost use Rattle.tables.specs.State.{state_of, Fits, node_entry, branch_entry, def_entry, with_node, with_branch, with_def, with_listed, with_cell, more_nodes, more_branches, more_defs, more_listed, more_cells, listed_of, among, since, Headed};
+ghost use Rattle.tables.specs.Kinds.{code};
 ghost use Rattle.tables.specs.Entries.{cells_from, most_nodes, most_branches, most_listed, most_cells, most_defs};
 
 // How much of a sheet's table is filled, once it is read whole.
@@ -50,7 +51,7 @@ impl Sheet {
 
     pub const CONSTANT: usize = 1000000000;
 
-    // The cells of a condition's words, and of an expression's.
+    // The cells of a condition's words, and of an expression's: numbers, as a caller lends the table (include/hurkoxel.h).
     pub const T: usize = 0;
 
     pub const AND: usize = 1;
@@ -150,8 +151,39 @@ pub fn mask_of(p: usize) -> usize
     MASKS[p] as usize
 }
 
+// What an action does.
+#[derive(Clone, Copy, PartialEq, Eq)]
+pub enum Kind {
+    Withdraw = 0,
+    Split = 1,
+    Reveal = 2,
+    Renew = 3,
+}
+
+impl Kind {
+    // The number that stands in a branch's entry.
+    pub fn code(self) -> usize
+        ensures { result ≡ code self }
+    {
+        self as usize
+    }
+
+    // The kind of a number that stands there.
+    pub fn of(number: usize) -> Kind
+        requires { number ≤ 3 }
+        ensures { code result ≡ number }
+    {
+        match number {
+            0 => Kind::Withdraw,
+            1 => Kind::Split,
+            2 => Kind::Reveal,
+            _ => Kind::Renew,
+        }
+    }
+}
+
 // A branch's action: its kind, the number after its letter or the node of its contract, and of an `r` where its secrets are
-// listed, how many, and where the cells of its condition start.
+// listed, how many, and where the cells of its condition start. The kind is the number that the table has (`Kind::code`): `put_branch` takes any.
 #[derive(Clone, Copy)]
 pub struct Action {
     pub kind: usize,
@@ -162,13 +194,13 @@ pub struct Action {
 }
 
 impl Action {
-    pub const WITHDRAW: usize = 0;
+    pub const WITHDRAW: usize = Kind::Withdraw as usize;
 
-    pub const SPLIT: usize = 1;
+    pub const SPLIT: usize = Kind::Split as usize;
 
-    pub const REVEAL: usize = 2;
+    pub const REVEAL: usize = Kind::Reveal as usize;
 
-    pub const RENEW: usize = 3;
+    pub const RENEW: usize = Kind::Renew as usize;
 }
 
 // A node more.
@@ -191,12 +223,8 @@ pub fn put_node(
     t[i + 2] = weight;
     t[i + 3] = count;
     St {
-        at: st.at,
         nodes: st.nodes + 1,
-        branches: st.branches,
-        defs: st.defs,
-        listed: st.listed,
-        cells: st.cells,
+        ..st
     }
 }
 
@@ -217,12 +245,8 @@ pub fn put_branch(t: &mut [usize], st: St, h: Head, a: Action) -> St
     t[i + 6] = a.count;
     t[i + 7] = a.cond;
     St {
-        at: st.at,
-        nodes: st.nodes,
         branches: st.branches + 1,
-        defs: st.defs,
-        listed: st.listed,
-        cells: st.cells,
+        ..st
     }
 }
 
@@ -238,12 +262,8 @@ pub fn put_def(t: &mut [usize], st: St, root: usize, first: usize, secrets: usiz
     t[i + 1] = first;
     t[i + 2] = secrets;
     St {
-        at: st.at,
-        nodes: st.nodes,
-        branches: st.branches,
         defs: st.defs + 1,
-        listed: st.listed,
-        cells: st.cells,
+        ..st
     }
 }
 
@@ -256,12 +276,8 @@ pub fn put_listed(t: &mut [usize], st: St, v: usize) -> St
 {
     t[Sheet::LISTED_AT + st.listed] = v;
     St {
-        at: st.at,
-        nodes: st.nodes,
-        branches: st.branches,
-        defs: st.defs,
         listed: st.listed + 1,
-        cells: st.cells,
+        ..st
     }
 }
 
@@ -274,12 +290,8 @@ pub fn put_cell(t: &mut [usize], st: St, v: usize) -> St
 {
     t[Sheet::CELLS_AT + st.cells] = v;
     St {
-        at: st.at,
-        nodes: st.nodes,
-        branches: st.branches,
-        defs: st.defs,
-        listed: st.listed,
         cells: st.cells + 1,
+        ..st
     }
 }
 
@@ -302,12 +314,5 @@ pub fn is_listed(t: &[usize], from: usize, to: usize, v: usize) -> bool
     requires to_le_most_listed { to ≤ most_listed }
     ensures { result ≡ among v (since from (listed_of to t.now)) }
 {
-    let mut i = from;
-    while i < to {
-        if t[Sheet::LISTED_AT + i] == v {
-            return true;
-        }
-        i += 1;
-    }
-    false
+    (from..to).any(|i| t[Sheet::LISTED_AT + i] == v)
 }

@@ -6,7 +6,7 @@ use native.Mathlib.Numerals.{add-one}
 use mathlib.Core.Bool.{Bool, true, false, cond}
 use mathlib.Core.List.{List, [], ◌∷◌, ◌++◌, map, map-append, append-nil, append_assoc}
 use lib.ListN.{length, take, get_or, length-append}
-use lib.Seq.{take-suc, take_all}
+use lib.Seq.{take-suc}
 use lib.Dec.{ltb}
 use borrow.Author.Tests.{lt-ltb, le-ltb}
 use Rattle.bitml.specs.Answers.{Line, row_line, refused_line, taken_line, end_line, event_line}
@@ -57,14 +57,6 @@ module _ (n : ℕ) (h : 10 ≤ n) (l : n < 10 ^ 20) where
 
 -- ---- a line
 
-pub wrote-more : {u₀ u v : List ℕ} {a b c : ℕ} (ws : List ℕ) (i : ℕ) → i < length ws → Wrote u₀ a (take i ws) u b → Wrote u b (get_or ws i 0 ∷ []) v c → Wrote u₀ a (take (i + 1) ws) v c
-wrote-more {u₀} {v = v} {a = a} {c = c} ws i h x y =
-    let e : take (i + 1) ws ≡ take i ws ++ (get_or ws i 0 ∷ []) = ap (λ k. take k ws) (add-one i) ∙ take-suc ws i 0 h in
-    subst (λ zs. Wrote u₀ a zs v c) (sym e) (wrote_then x y)
-
-pub wrote_whole : {u₀ u : List ℕ} {a b : ℕ} (ws : List ℕ) (i : ℕ) → length ws ≤ i → Wrote u₀ a (take i ws) u b → Wrote u₀ a ws u b
-wrote_whole {u₀} {u} {a} {b} ws i h x = subst (λ zs. Wrote u₀ a zs u b) (take_all i ws h) x
-
 fields-append : (xs ys : List ℕ) → fields (xs ++ ys) ≡ fields xs ++ fields ys
 unfolding fields
 fields-append [] ys = refl
@@ -73,9 +65,6 @@ fields-append (x ∷ xs) ys = ap (λ zs. field x ++ zs) (fields-append xs ys) �
 pub wrote_no_field : (u : List ℕ) (a : ℕ) → Wrote u a (fields []) u a
 unfolding fields
 wrote_no_field u a = wrote_none u a
-
-pub wrote-fields : {u₀ u : List ℕ} {a b : ℕ} (ns : List ℕ) (i : ℕ) → length ns ≤ i → Wrote u₀ a (fields (take i ns)) u b → Wrote u₀ a (fields ns) u b
-wrote-fields {u₀} {u} {a} {b} ns i h x = subst (λ zs. Wrote u₀ a (fields zs) u b) (take_all i ns h) x
 
 module _ {u₀ u v z : List ℕ} {a b c d : ℕ} where
   -- one field more
@@ -142,6 +131,3 @@ wrote_no_row u a rows = subst (λ rs. Wrote u a (lines_text (map row_line rs)) u
 
 pub wrote-row : {u₀ u v : List ℕ} {a b c : ℕ} (i : ℕ) (rows : List ℕ) → Wrote u₀ a (rows_text i rows) u b → Wrote u b (line_text (row_line (row_in rows i))) v c → Wrote u₀ a (rows_text (i + 1) rows) v c
 wrote-row {u₀} {v = v} {a = a} {c = c} i rows x y = subst (λ zs. Wrote u₀ a zs v c) (sym (row_more i rows)) (wrote_then x y)
-
-pub wrote-rows : {u₀ u : List ℕ} {a b : ℕ} (i n : ℕ) (rows : List ℕ) → i ≡ n → Wrote u₀ a (rows_text i rows) u b → Wrote u₀ a (rows_text n rows) u b
-wrote-rows {u₀} {u} {a} {b} i n rows e x = subst (λ k. Wrote u₀ a (rows_text k rows) u b) e x

@@ -4,8 +4,10 @@ use Prim.Native.Nat.{ℕ, ◌+◌, ◌-◌, ◌≤◌, ◌<◌}
 use native.Mathlib.Omega.{arith}
 use native.Mathlib.Numerals.{add-one}
 use mathlib.Core.List.{List, [], ◌∷◌, ◌++◌, append-nil, append_assoc}
-use lib.ListN.{length, take, drop, set, replicate, length-set, length-append, length-take, take-append-drop}
+use lib.ListN.{length, take, drop, set, replicate, length-set, length-append, length-take, length-drop, take-append-drop}
 use lib.Seq.{take-suc-set, drop-set-lt, drop-drop}
+use borrow.Rule.Slice.PartMut.{put_mid, same_len_mid}
+use Rattle.std.proofs.lemmas.Slice.{take-put_mid, drop-put_mid}
 use Rattle.bitml.proofs.Lists.{drop-replicate}
 use Rattle.texts.specs.Wrote.{Wrote}
 
@@ -19,6 +21,17 @@ wrote_byte u a b h =
       long = length-set u a b;
       front = rw add-one (take-suc-set u a b h);
       rest = drop-set-lt (a + 1) u a b (omega arith);
+    }
+
+-- xs into the part of u that begins at a and is as long
+pub wrote_part : (u xs ys : List ℕ) (a k : ℕ) → a + length xs ≤ length u → k ≡ length xs → ys ≡ xs → Wrote u a xs (put_mid a k u ys) (a + length xs)
+wrote_part u xs ys a k h m e =
+    let l : length ys ≡ k = cc in
+    record {
+      end = refl;
+      long = same_len_mid a k u ys (omega (arith, length-take k (drop a u), length-drop a u));
+      front = rw (take-put_mid a k u ys (a + length xs) (omega arith) (omega arith), e);
+      rest = drop-put_mid a k u ys (a + length xs) (omega arith) (omega arith) l;
     }
 
 pub wrote_then : {u₀ xs u ys v : List ℕ} {a b c : ℕ} → Wrote u₀ a xs u b → Wrote u b ys v c → Wrote u₀ a (xs ++ ys) v c

@@ -8,8 +8,8 @@ use Rattle.tables.specs.Entries.{Entries, most_branches}
 use Rattle.tables.specs.State.{State, entries, with_listed, with_def, def_entry}
 use Rattle.steps.specs.Steps.{Outcome, next, bad, to_place, times}
 use Rattle.contracts.specs.declared.Limits.{Limits}
-use Rattle.lines.specs.declared.LineOne.{LineOne}
-use Rattle.lines.specs.declared.LineOne.TheVariants.{Counts, Bad}
+use Rattle.lines.specs.LineOne.{LineOne}
+use Rattle.lines.specs.LineOne.{Counts, Bad}
 use Rattle.lines.specs.LineOne.{line_one_at}
 use Rattle.lines.specs.Definition.{within, deposits_at, owner_at, root_at, owned_at, define_at, blank}
 use Rattle.lines.specs.Sheet.{beyond, limited, SheetRead, accepted, refused as turned, accept, sizes, sheet_from, read_sheet}

@@ -1,6 +1,6 @@
 -- The text and the rows of a verdict are those of the definition. Assumes nothing.
 use mathlib.Core.Path.{◌≡◌, refl, sym, ap, ap₂, ◌∙◌, subst}
-use Prim.Native.Nat.{ℕ, ◌+◌, ◌-◌, ◌*◌, ◌≤◌, ◌<◌}
+use Prim.Native.Nat.{ℕ, ◌+◌, ◌*◌, ◌≤◌, ◌<◌}
 use native.Mathlib.Omega.{arith}
 use mathlib.Core.Bool.{Bool, true, false, cond}
 use mathlib.Core.List.{List, [], ◌∷◌, ◌++◌, map}
@@ -27,7 +27,7 @@ use Rattle.exits.specs.Made.{answer_of, buffer_of}
 use Rattle.exits.specs.declared.Verdict.TheVariants.{Liquid, Frozen}
 use Rattle.exits.proofs.Told.{line-is, told-liquid, told-frozen}
 use Rattle.rows.specs.Given.{answer_of as answerOfRows, buffer_of as bufferOfRows}
-use Rattle.rows.specs.declared.Checked.TheVariants as checked
+use Rattle.rows.specs.Given as checked
 use Rattle.buffer.proofs.Buffer.{rows-filled}
 use Rattle.texts.specs.Text.{line_text, lines_text}
 use Rattle.texts.specs.Wrote.{Wrote}

@@ -7,6 +7,7 @@ use native.Mathlib.Decide.{dec_le}
 use mathlib.Core.Bool.{true, cond}
 use mathlib.Core.List.{List}
 use lib.ListN.{length, get_or, set, length-set}
+use lib.Dec.{eqb}
 use lib.Seq.{get_or-set_same, get_or-set_other}
 use borrow.Author.Tests.{ne_eqb}
 use Rattle.bitml.specs.Why.{near}
@@ -16,11 +17,9 @@ use Rattle.tables.specs.Entries.{Entries, most_nodes}
 use Rattle.tables.specs.SheetOf.{sheet_of}
 use Rattle.reading.specs.Promises.{Promises}
 use Rattle.reached.specs.Marks.{flag}
-use Rattle.reached.proofs.Queue.{flags_le, room}
+use Rattle.search.proofs.Visiting.{by_mark}
+use Rattle.reached.proofs.Queue.{room, positive}
 use Rattle.ways.specs.Marks.{Marked, Close, Grew}
-
-pub tail_le : {K : ℕ} {E : Entries} {g : ℕ} {D Q : List ℕ} {tail : ℕ} → Marked K E g D Q tail → tail ≤ most_nodes
-tail_le {D = D} mk = omega (arith, flags_le D, mk.long, mk.count)
 
 pub grew_same : (D Q : List ℕ) (tail : ℕ) → Grew D Q tail D Q tail
 grew_same D Q tail = record { more = omega arith; marks = λ m h. refl; places = λ i h. refl }
@@ -104,3 +103,8 @@ module _ {K : ℕ} {E : Entries} {g : ℕ} {D Q : List ℕ} {tail n : ℕ} (ok :
               subst (λ k. get_or (set D n (c + 1)) (get_or (set Q tail n) i 0) 0 ≤ get_or (set D n (c + 1)) (get_or (set Q tail n) k 0) 0) (sym q)
               (omega (arith, last-mark e, close_at (get_or (set Q tail n) i 0) f)));
         }
+
+    pub visited : {x tail' : ℕ} {D' Q' : List ℕ} → x ≡ c + 1 → c ≤ tail → Close D c → near (sheet_of K E) g c n ≡ true → D' ≡ cond (eqb (get_or D n 0) 0) (set D n x) D
+        → Q' ≡ cond (eqb (get_or D n 0) 0) (set Q tail n) Q → tail' ≡ cond (eqb (get_or D n 0) 0) (tail + 1) tail → (Marked K E g D' Q' tail' × Close D' c) × Grew D Q tail D' Q' tail' × (0 < get_or D' n 0)
+    visited q hc f h u v w = by_mark (λ D' Q' tail'. (Marked K E g D' Q' tail' × Close D' c) × Grew D Q tail D' Q' tail' × (0 < get_or D' n 0)) n _ u v w
+        (λ e. rw q ((visit_more e hc f h, visit_close f), visit_grew e, visit_marked)) (λ ne. ((mk, f), grew_same D Q tail, positive _ ne))

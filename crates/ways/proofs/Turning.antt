@@ -1,6 +1,9 @@
 -- The step that is taken: the lowest branch that leads on, and the lowest node in it that does. Assumes nothing.
 use mathlib.Core.Path.{◌≡◌, refl, sym, ap, ◌∙◌, subst}
-use mathlib.Core.Logic.{inl, inr, by_cases}
+use mathlib.Core.Logic.{by_cases}
+use Rattle.std.specs.Prelude.{Option, None, Some}
+use Rattle.std.specs.Option.{MatchOption}
+use Rattle.std.specs.List.{AllWithin, HoldsAt}
 use Prim.Native.Nat.{ℕ, zero, suc, ◌+◌, ◌-◌, ◌≤◌, ◌<◌}
 use native.Mathlib.Omega.{arith}
 use native.Mathlib.Decide.{dec_le}
@@ -46,9 +49,9 @@ kept_rise T a (suc n) i j h l = go (T a) i j h l (kept_rise T (suc a) n)
 
 module _ (E : Entries) (D : List ℕ) (b k : ℕ) where
   pub part_found : (i : ℕ) → length E.nodes ≤ most_nodes → i < part_count E b → get_or D (part_number E b i) 0 ≡ k → ((j : ℕ) → j < i → get_or D (part_number E b j) 0 ≡ k → ⊥)
-      → Found D (part_numbers E b) k (part_number E b i)
-  unfolding Found part_count part_number part_numbers
-  part_found i few h e f = inl (
+      → Found D (part_numbers E b) k (Some (part_number E b i))
+  unfolding part_count part_number part_numbers
+  part_found i few h e f = (
     omega (arith, part_small E b i h),
     record {
       listed = mem-at (part_numbers E b) i h;
@@ -61,20 +64,28 @@ module _ (E : Entries) (D : List ℕ) (b k : ℕ) where
     },
   )
 
-  pub part_missed : (i : ℕ) → part_count E b ≤ i → ((j : ℕ) → j < i → get_or D (part_number E b j) 0 ≡ k → ⊥) → Found D (part_numbers E b) k most_nodes
-  unfolding Found part_count part_number
-  part_missed i h f = inr (refl, λ j hj q. let w = place_of (part_numbers E b) hj in f w.0 (omega (arith, w.1)) (ap (λ m. get_or D m 0) w.2 ∙ q))
+  pub part_missed : (i : ℕ) → part_count E b ≤ i → ((j : ℕ) → j < i → get_or D (part_number E b j) 0 ≡ k → ⊥) → Found D (part_numbers E b) k None
+  unfolding part_count part_number
+  part_missed i h f j hj q = let w = place_of (part_numbers E b) hj in f w.0 (omega (arith, w.1)) (ap (λ m. get_or D m 0) w.2 ∙ q)
 
-pub one_found : (D : List ℕ) (k m n : ℕ) → m ≡ n → m < most_nodes → get_or D m 0 ≡ k → Found D (n ∷ []) k m
-unfolding Found
-one_found D k m n e h q = inl (h, record { listed = mathlib.Core.List.Memᴰ.head e; mark = q; lowest = λ j hj r. let z = mathlib.Core.List.Memᴰ.eq_of_singleton hj in omega arith })
+-- what `find` says of the parts of a branch
+pub first_part : (E : Entries) (D ms : List ℕ) (b k : ℕ) (r : Option ℕ) → length E.nodes ≤ most_nodes → ms ≡ part_numbers E b
+    → MatchOption r (AllWithin (λ m. get_or D m 0 ≡ k → ⊥) ms 0 (length ms))
+    (λ x. (get_or D x 0 ≡ k) × (i : ℕ) × (i < length ms) × HoldsAt (λ y. y ≡ x) ms i × AllWithin (λ m. get_or D m 0 ≡ k → ⊥) ms 0 i) → Found D (part_numbers E b) k r
+unfolding part_count part_number
+first_part E D ms b k None few e f = part_missed E D b k (part_count E b) (omega arith) (λ j h. rw (← e) (f j 0 (omega arith) (omega (arith, ap length e))))
+first_part E D ms b k (Some x) few e (q, i, hi, at, f) =
+    let z : part_number E b i ≡ x = rw (← e) (at 0) in
+    subst (λ m. Found D (part_numbers E b) k (Some m)) z (part_found E D b k i few (omega (arith, ap length e)) (ap (λ m. get_or D m 0) z ∙ q) (λ j h. rw (← e) (f j 0 (omega arith) h)))
 
-pub one_missed : (D : List ℕ) (k m n : ℕ) → m ≡ n → (get_or D m 0 ≡ k → ⊥) → Found D (n ∷ []) k most_nodes
-unfolding Found
-one_missed D k m n e f = inr (refl, λ j hj q. f (ap (λ n. get_or D n 0) (e ∙ sym (mathlib.Core.List.Memᴰ.eq_of_singleton hj)) ∙ q))
+pub one_found : (D : List ℕ) (k m n : ℕ) → m ≡ n → m < most_nodes → get_or D m 0 ≡ k → Found D (n ∷ []) k (Some m)
+one_found D k m n e h q = (h, record { listed = mathlib.Core.List.Memᴰ.head e; mark = q; lowest = λ j hj r. let z = mathlib.Core.List.Memᴰ.eq_of_singleton hj in omega arith })
+
+pub one_missed : (D : List ℕ) (k m n : ℕ) → m ≡ n → (get_or D m 0 ≡ k → ⊥) → Found D (n ∷ []) k None
+one_missed D k m n e f j hj q = f (ap (λ n. get_or D n 0) (e ∙ sym (mathlib.Core.List.Memᴰ.eq_of_singleton hj)) ∙ q)
 
 -- a branch leads to its parts, or to the root of its definition
-module _ (K : ℕ) (E : Entries) (ok : Promises K E) (b : ℕ) (hb : b < length E.branches) (D : List ℕ) (k r : ℕ) where
+module _ (K : ℕ) (E : Entries) (ok : Promises K E) (b : ℕ) (hb : b < length E.branches) (D : List ℕ) (k : ℕ) (r : Option ℕ) where
   pub found_parts : ((branch_entry_at E b).kind ≡ 3 → ⊥) → Found D (part_numbers E b) k r → Found D (next (sheet_of K E) (branch_of E b).action) k r
   unfolding branch_of action_of
   found_parts ne w = subst (λ ns. Found D ns k r) (sym (go (branch_entry_at E b).kind refl ∙ parts-are-nodes K E ok b hb)) w
@@ -98,19 +109,10 @@ pub none_first : (K : ℕ) (E : Entries) (D : List ℕ) (n k : ℕ) → NoneBefo
 unfolding NoneBefore
 none_first K E D n k j h = absurd (omega arith)
 
-pub none_more : (K : ℕ) (E : Entries) (D : List ℕ) (n k i b r : ℕ) → b ≡ branch_number E n i → NoneBefore K E D n k i → Found D (next (sheet_of K E) (branch_of E b).action) k r → most_nodes ≤ r
-    → NoneBefore K E D n k (i + 1)
-unfolding NoneBefore Found
-none_more K E D n k i b r e f w big j hj = by_cases (dec_le (suc j) i) (λ z. f j z) (λ z. let q : branch_number E n j ≡ b = ap (branch_number E n) (omega arith) ∙ sym e in rw q (missed w))
-  where
-    missed : Found D (next (sheet_of K E) (branch_of E b).action) k r → (m : ℕ) → Memᴰ m (next (sheet_of K E) (branch_of E b).action) → get_or D m 0 ≡ k → ⊥
-    missed (inl w) = absurd (omega (arith, w.0))
-    missed (inr w) = w.1
-
-found_lowest : (D ns : List ℕ) (k r : ℕ) → Found D ns k r → r < most_nodes → Lowest D ns k r
-unfolding Found
-found_lowest D ns k r (inl w) h = w.1
-found_lowest D ns k r (inr w) h = absurd (omega (arith, w.0))
+pub none_more : (K : ℕ) (E : Entries) (D : List ℕ) (n k i b : ℕ) → b ≡ branch_number E n i → NoneBefore K E D n k i
+    → ((m : ℕ) → Memᴰ m (next (sheet_of K E) (branch_of E b).action) → get_or D m 0 ≡ k → ⊥) → NoneBefore K E D n k (i + 1)
+unfolding NoneBefore
+none_more K E D n k i b e f w j hj = by_cases (dec_le (suc j) i) (λ z. f j z) (λ z. let q : branch_number E n j ≡ b = ap (branch_number E n) (omega arith) ∙ sym e in rw q w)
 
 module _ (K : ℕ) (E : Entries) (ok : Promises K E) (g : ℕ) (D : List ℕ) (x : Distances (sheet_of K E) g D) (n : ℕ) (hn : n < length E.nodes) (k : ℕ) (far : get_or D n 0 ≡ suc (suc k)) where
   in_sheet : (m : ℕ) → m < length E.nodes → m < length (sheet_of K E).nodes
@@ -175,13 +177,13 @@ module _ (K : ℕ) (E : Entries) (ok : Promises K E) (g : ℕ) (D : List ℕ) (x
 
 -- for whatever node the distances are to
 pub turned : (K : ℕ) (E : Entries) → Promises K E → (D : List ℕ) (n i b m : ℕ) → b ≡ branch_number E n i → n < length E.nodes → 1 < get_or D n 0 → i < branch_count E n
-    → NoneBefore K E D n (get_or D n 0 - 1) i → Found D (next (sheet_of K E) (branch_of E b).action) (get_or D n 0 - 1) m → m < most_nodes
+    → NoneBefore K E D n (get_or D n 0 - 1) i → Lowest D (next (sheet_of K E) (branch_of E b).action) (get_or D n 0 - 1) m
     → (g : ℕ) → Distances (sheet_of K E) g D → Turned (sheet_of K E) g D n (record { branch = i; node = m })
-turned K E ok D n i b m e hn far hi f w h g x =
+turned K E ok D n i b m e hn far hi f w g x =
     let k = get_or D n 0 - 2 in
     let q : get_or D n 0 - 1 ≡ suc k = omega arith in
     let l : Lowest D (next (sheet_of K E) (branch_of E (branch_number E n i)).action) (get_or D n 0 - 1) m =
-    subst (λ b. Lowest D (next (sheet_of K E) (branch_of E b).action) (get_or D n 0 - 1) m) e (found_lowest D _ _ m w h) in
+    subst (λ b. Lowest D (next (sheet_of K E) (branch_of E b).action) (get_or D n 0 - 1) m) e w in
     turned_at K E ok g D x n hn k (omega arith) i m hi (subst (λ k. NoneBefore K E D n k i) q f) (subst (λ k. Lowest D (next (sheet_of K E) (branch_of E (branch_number E n i)).action) k m) q l)
 
 pub not_turned : (K : ℕ) (E : Entries) → Promises K E → (D : List ℕ) (n i : ℕ) → n < length E.nodes → 1 < get_or D n 0 → branch_count E n ≤ i → i ≤ branch_count E n

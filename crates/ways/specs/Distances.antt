@@ -1,5 +1,5 @@
 -- How far each node is from the node that a way leads to, and how one step of the way is taken. Assumes nothing.
-use Rattle.std.specs.Prelude.{◌≡◌, ◌↔◌, ◌⊎◌, ℕ, suc, ◌≤◌, ◌<◌, true, length, get_or}
+use Rattle.std.specs.Prelude.{◌≡◌, ◌↔◌, ℕ, suc, ◌≤◌, ◌<◌, true, length, get_or, Option, None, Some}
 use mathlib.Core.List.{List, [], ◌∷◌, Memᴰ}
 use Rattle.bitml.specs.Sheet.{Sheet}
 use Rattle.bitml.specs.Why.{near, trail}
@@ -17,9 +17,10 @@ pub record Lowest (D ns : List ℕ) (k m : ℕ) : Type 0 where
   pub mark : get_or D m 0 ≡ k
   pub lowest : (j : ℕ) → Memᴰ j ns → get_or D j 0 ≡ k → m ≤ j
 
--- and 512, which is no node, where none has it
-unfoldable pub Found : List ℕ → List ℕ → ℕ → ℕ → Type 0
-Found D ns k r = ((r < most_nodes) × Lowest D ns k r) ⊎ ((r ≡ most_nodes) × ((j : ℕ) → Memᴰ j ns → get_or D j 0 ≡ k → ⊥))
+-- and nothing where none has it
+abbrev pub Found : List ℕ → List ℕ → ℕ → Option ℕ → Type 0
+Found D ns k (Some m) = (m < most_nodes) × Lowest D ns k m
+Found D ns k None = (j : ℕ) → Memᴰ j ns → get_or D j 0 ≡ k → ⊥
 
 -- The step that is taken at node n, and the node that the next one is taken at
 pub record Turned (s : Sheet) (g : ℕ) (D : List ℕ) (n : ℕ) (r : Turn) : Type 0 where

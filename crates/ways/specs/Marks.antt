@@ -2,7 +2,8 @@
 use Rattle.std.specs.Prelude.{◌≡◌, ◌⊎◌, ℕ, suc, ◌-◌, ◌≤◌, ◌<◌, true, List, map, length, get_or}
 use Rattle.bitml.specs.Lists.{sum}
 use Rattle.bitml.specs.Why.{near}
-use Rattle.tables.specs.Entries.{Entries, most_nodes}
+use Rattle.search.specs.declared.Search.{Search}
+use Rattle.tables.specs.Entries.{Entries, held, people, most_nodes}
 use Rattle.tables.specs.SheetOf.{sheet_of, node_entry_at, branch_entry_at, def_entry_at}
 use Rattle.reached.specs.Marks.{flag}
 
@@ -18,6 +19,10 @@ pub record Marked (K : ℕ) (E : Entries) (g : ℕ) (D Q : List ℕ) (tail : ℕ
   pub marked : (i : ℕ) → i < tail → 0 < get_or D (get_or Q i 0) 0
   pub rising : (i j : ℕ) → i ≤ j → j < tail → get_or D (get_or Q i 0) 0 ≤ get_or D (get_or Q j 0) 0
 
+-- and so a search does
+abbrev pub Searched : List ℕ → ℕ → Search 512 → Type 0
+Searched t g s = Marked (people t) (held t) g s.marks.now s.queue s.len
+
 -- No mark is above c + 1: all that is marked while a node with mark c is at the head of the queue
 unfoldable pub Close : List ℕ → ℕ → Type 0
 Close D c = (m : ℕ) → get_or D m 0 ≤ suc c
@@ -27,6 +32,10 @@ pub record Grew (D Q : List ℕ) (tail : ℕ) (D' Q' : List ℕ) (tail' : ℕ) :
   pub more : tail ≤ tail'
   pub marks : (m : ℕ) → 0 < get_or D m 0 → get_or D' m 0 ≡ get_or D m 0
   pub places : (i : ℕ) → i < tail → get_or Q' i 0 ≡ get_or Q i 0
+
+-- from one state of a search to a later one
+abbrev pub Further : Search 512 → Search 512 → Type 0
+Further s s' = Grew s.marks.now s.queue s.len s'.marks.now s'.queue s'.len
 
 -- Branch b leads to node m: m is a contract in it, or the root of the definition that it renews as
 abbrev pub Before : Entries → ℕ → ℕ → Type 0

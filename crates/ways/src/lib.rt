@@ -5,17 +5,15 @@
 ghost use Rattle.std.specs.Prelude.{◌≡◌, true, ℕ, ◌≤◌, ◌<◌, length, get_or};
 ghost use Rattle.bitml.specs.Runs.{next};
 ghost use Rattle.bitml.specs.Why.{near};
-ghost use Rattle.tables.specs.Entries.{held, people, most_nodes};
+ghost use Rattle.tables.specs.Entries.{held, most_nodes};
 ghost use Rattle.tables.specs.SheetOf.{branch_entry_at, part_numbers, branch_of, sheet_in};
-ghost use Rattle.sheets.specs.Ready.{Ready, Indexed, namers, Named};
+ghost use Rattle.sheets.specs.Ready as ready;
 ghost use Rattle.ways.specs.Distances.{Distances, Found, Turned};
-ghost use Rattle.ways.specs.Marks.{Marked, Close, Grew, Led, RenewerLed, RenewersLed};
+ghost use Rattle.ways.specs.Marks.{Searched, Further, Close, Led, RenewerLed, RenewersLed};
 
-use sheets::{
-    NAMERS, branch_arg, branch_count, branch_kind, branch_node, branch_of, def_root, index_namers,
-    namer_count, namer_of, node_definition, node_parent, part_count, part_of,
-};
-use tables::{Action, Sheet};
+use search::Search;
+use sheets::{Index, NAMERS, Namers, Table};
+use tables::{Kind, Sheet};
 
 // A branch, and the node in it where the next step is taken.
 #[derive(Clone, Copy)]
@@ -24,192 +22,91 @@ pub struct Turn {
     pub node: usize,
 }
 
-// ---- distances, by a search from the target backwards
+// ---- distances, by a search from the target backwards: a node's mark is one more than the steps from it to the target
 
-// Marks node n, from which c steps lead to the target, and puts it into the queue, if it has no mark yet; the count of marked nodes
-// comes back.
-fn visit(
-    t: &[usize],
-    target: usize,
-    dist: &mut [usize; Sheet::NODES],
-    queue: &mut [usize; Sheet::NODES],
-    tail: usize,
-    n: usize,
-    c: usize,
-) -> usize
-    requires ready { Ready t.now }
-    requires marked { Marked (people t.now) (held t.now) target dist.old queue.old tail × Close dist.old c }
-    requires n_in_bounds { (n < length (held t.now).nodes) × (c ≤ tail) × (near (sheet_in t.now) target c n ≡ true) }
-    ensures marked_2 { Marked (people t.now) (held t.now) target dist.new queue.new result × Close dist.new c }
-    ensures grew { Grew dist.old queue.old tail dist.new queue.new result }
-    ensures nonzero { 0 < get_or dist.new n 0 }
+// Visits the nodes that renew as definition d, from which c steps lead to the target.
+fn visit_renewers(namers: Namers, search: &mut Search<{ Sheet::NODES }>, d: usize, c: usize)
+    ghost target: { ℕ }
+    requires searched { Searched namers.table.cells.now target search.old × Close search.old.marks.now c }
+    requires d_in_bounds { (d < length (held namers.table.cells.now).defs) × (c ≤ search.old.len) }
+    requires by_index { (b : ℕ) → b < length (held namers.table.cells.now).branches → (branch_entry_at (held namers.table.cells.now) b).arg ≡ d → (branch_entry_at (held namers.table.cells.now) b).kind ≡ 3 → near (sheet_in namers.table.cells.now) target c (branch_entry_at (held namers.table.cells.now) b).node ≡ true }
+    ensures same { search.new.marks.ghost_name ≡ search.old.marks.ghost_name }
+    ensures searched_2 { Searched namers.entry.table.cells.now target search.new × Close search.new.marks.now c }
+    ensures further { Further search.old search.new }
+    ensures renewers_led { RenewersLed (held namers.entry.table.cells.now) search.new.marks.now (ready.namers (held namers.entry.table.cells.now) d) (length (ready.namers (held namers.entry.table.cells.now) d)) }
 {
-    if dist[n] != 0 {
-        return tail;
+    for &b in namers.of(d) {
+        let branch = namers.table.branch(b);
+        if branch.kind == Kind::Renew {
+            search.visit(branch.node, c + 1);
+        }
     }
-    queue[tail] = n;
-    dist[n] = c + 1;
-    tail + 1
-}
-
-// Visits the node of branch b, if the branch renews.
-fn visit_renewer(
-    t: &[usize],
-    target: usize,
-    dist: &mut [usize; Sheet::NODES],
-    queue: &mut [usize; Sheet::NODES],
-    tail: usize,
-    b: usize,
-    c: usize,
-) -> usize
-    requires ready { Ready t.now }
-    requires marked { Marked (people t.now) (held t.now) target dist.old queue.old tail × Close dist.old c }
-    requires b_in_bounds { (b < length (held t.now).branches) × (c ≤ tail) }
-    requires b_value { (branch_entry_at (held t.now) b).kind ≡ 3 → near (sheet_in t.now) target c (branch_entry_at (held t.now) b).node ≡ true }
-    ensures marked_2 { Marked (people t.now) (held t.now) target dist.new queue.new result × Close dist.new c }
-    ensures grew { Grew dist.old queue.old tail dist.new queue.new result }
-    ensures renewer_led { RenewerLed (held t.now) dist.new b }
-{
-    if branch_kind(t, b) != Action::RENEW {
-        return tail;
-    }
-    let n = branch_node(t, b);
-    visit(t, target, dist, queue, tail, n, c)
-}
-
-// Visits the nodes that renew as definition d.
-fn visit_renewers(
-    t: &[usize],
-    target: usize,
-    dist: &mut [usize; Sheet::NODES],
-    queue: &mut [usize; Sheet::NODES],
-    tail: usize,
-    d: usize,
-    c: usize,
-    y: &[usize],
-) -> usize
-    requires ready { Ready t.now }
-    requires marked { Marked (people t.now) (held t.now) target dist.old queue.old tail × Close dist.old c }
-    requires d_in_bounds { (d < length (held t.now).defs) × (c ≤ tail) × Named (held t.now) y.now }
-    requires by_index { (b : ℕ) → b < length (held t.now).branches → (branch_entry_at (held t.now) b).arg ≡ d → (branch_entry_at (held t.now) b).kind ≡ 3 → near (sheet_in t.now) target c (branch_entry_at (held t.now) b).node ≡ true }
-    ensures marked_2 { Marked (people t.now) (held t.now) target dist.new queue.new result × Close dist.new c }
-    ensures grew { Grew dist.old queue.old tail dist.new queue.new result }
-    ensures renewers_led { RenewersLed (held t.now) dist.new (namers (held t.now) d) (length (namers (held t.now) d)) }
-{
-    let count = namer_count(t, y, d);
-    let mut end = tail;
-    let mut i = 0;
-    while i < count {
-        let b = namer_of(t, y, d, i);
-        end = visit_renewer(t, target, dist, queue, end, b, c);
-        i += 1;
-    }
-    end
 }
 
 // Visits the nodes with a branch that leads to node m, which is marked: the one in whose branch it stands, or those that renew as the
 // definition whose root it is.
-fn visit_before(
-    t: &[usize],
-    target: usize,
-    dist: &mut [usize; Sheet::NODES],
-    queue: &mut [usize; Sheet::NODES],
-    tail: usize,
-    m: usize,
-    y: &[usize],
-) -> usize
-    requires ready { Ready t.now }
-    requires marked { Marked (people t.now) (held t.now) target dist.old queue.old tail × Close dist.old (get_or dist.old m 0) }
-    requires nonzero { (0 < get_or dist.old m 0) × Named (held t.now) y.now }
-    ensures marked_2 { Marked (people t.now) (held t.now) target dist.new queue.new result × Close dist.new (get_or dist.old m 0) }
-    ensures grew { Grew dist.old queue.old tail dist.new queue.new result }
-    ensures led { Led (held t.now) dist.new m }
+fn visit_before(namers: Namers, search: &mut Search<{ Sheet::NODES }>, m: usize)
+    ghost target: { ℕ }
+    requires searched { Searched namers.table.cells.now target search.old × Close search.old.marks.now (get_or search.old.marks.now m 0) }
+    requires nonzero { 0 < get_or search.old.marks.now m 0 }
+    ensures same { search.new.marks.ghost_name ≡ search.old.marks.ghost_name }
+    ensures searched_2 { Searched namers.entry.table.cells.now target search.new × Close search.new.marks.now (get_or search.old.marks.now m 0) }
+    ensures further { Further search.old search.new }
+    ensures led { Led (held namers.entry.table.cells.now) search.new.marks.now m }
 {
-    let c = dist[m];
-    let b = node_parent(t, m);
-    if b == Sheet::BRANCHES {
-        let d = node_definition(t, m);
-        return visit_renewers(t, target, dist, queue, tail, d, c, y);
+    let c = search.marks[m];
+    let node = namers.table.node(m);
+    if node.parent == Sheet::BRANCHES {
+        visit_renewers(namers, search, node.definition, c);
+    } else {
+        search.visit(namers.table.branch(node.parent).node, c + 1);
     }
-    let n = branch_node(t, b);
-    visit(t, target, dist, queue, tail, n, c)
 }
 
 // How far each node is from the target.
-pub fn distances(t: &[usize], target: usize, dist: &mut [usize; Sheet::NODES])
-    requires ready { Ready t.now }
-    requires target_in_bounds { target < length (held t.now).nodes }
+pub fn distances(table: Table, target: usize, dist: &mut [usize; Sheet::NODES])
+    requires target_in_bounds { target < length (held table.cells.now).nodes }
     requires dist_len { (length dist.old ≡ most_nodes) × ((m : ℕ) → get_or dist.old m 0 ≡ 0) }
-    ensures { Distances (sheet_in t.now) target dist.new }
+    ensures { Distances (sheet_in table.entry.cells.now) target dist.new }
 {
-    let mut y = [0usize; NAMERS];
-    index_namers(t, &mut y);
-    let mut queue = [0usize; Sheet::NODES];
-    let mut end = visit(t, target, dist, &mut queue, 0, target, 0);
+    let mut room = [0usize; NAMERS];
+    let namers = table.namers(&mut room);
+    let mut search = Search::new(dist);
+    search.visit(target, 1);
+    // The queue grows while it is gone through.
     let mut head = 0;
-    while head < end {
-        let m = queue[head];
-        end = visit_before(t, target, dist, &mut queue, end, m, &y);
+    while head < search.len {
+        let m = search.queue[head];
+        visit_before(namers, &mut search, m);
         head += 1;
     }
 }
 
 // ---- the way, one step after the other
 
-// The lowest part of branch b with mark k; the number past the nodes where none has it.
-fn part_toward(t: &[usize], dist: &[usize; Sheet::NODES], b: usize, k: usize, x: &[usize]) -> usize
-    requires ready { Ready t.now }
-    requires indexed { Indexed (held t.now) x.now }
-    requires dist_len { (length dist.now ≡ most_nodes) × (b < length (held t.now).branches) }
-    ensures { Found dist.now (part_numbers (held t.now) b) k result }
+// The lowest node with mark k that branch b leads to: of its parts, or the root of the definition that it renews as.
+fn node_toward(index: Index, dist: &[usize; Sheet::NODES], b: usize, k: usize) -> Option<usize>
+    requires dist_len { (length dist.now ≡ most_nodes) × (b < length (held index.table.cells.now).branches) }
+    ensures { Found dist.now (next (sheet_in index.entry.table.cells.now) (branch_of (held index.entry.table.cells.now) b).action) k result }
 {
-    let count = part_count(t, x, b);
-    let mut i = 0;
-    while i < count {
-        let m = part_of(t, x, b, i);
-        if dist[m] == k {
-            return m;
-        }
-        i += 1;
+    let branch = index.table.branch(b);
+    if branch.kind == Kind::Renew {
+        let root = index.table.definition(branch.arg).root;
+        return (dist[root] == k).then_some(root);
     }
-    Sheet::NODES
-}
-
-// The same of all that branch b leads to: its parts, or the root of the definition that it renews as.
-fn node_toward(t: &[usize], dist: &[usize; Sheet::NODES], b: usize, k: usize, x: &[usize]) -> usize
-    requires ready { Ready t.now }
-    requires indexed { Indexed (held t.now) x.now }
-    requires dist_len { (length dist.now ≡ most_nodes) × (b < length (held t.now).branches) }
-    ensures { Found dist.now (next (sheet_in t.now) (branch_of (held t.now) b).action) k result }
-{
-    if branch_kind(t, b) != Action::RENEW {
-        return part_toward(t, dist, b, k, x);
-    }
-    let d = branch_arg(t, b);
-    let m = def_root(t, d);
-    if dist[m] == k {
-        return m;
-    }
-    Sheet::NODES
+    index.parts_of(b).iter().copied().find(|&m| dist[m] == k)
 }
 
 // The step that is taken at node n: its lowest branch that leads on, and the lowest node in it that does.
-pub fn toward(t: &[usize], dist: &[usize; Sheet::NODES], n: usize, x: &[usize]) -> Turn
-    requires ready { Ready t.now }
-    requires indexed { Indexed (held t.now) x.now }
-    requires dist_len { (length dist.now ≡ most_nodes) × (n < length (held t.now).nodes) × (1 < get_or dist.now n 0) }
-    ensures { (g : ℕ) → Distances (sheet_in t.now) g dist.now → Turned (sheet_in t.now) g dist.now n result }
+pub fn toward(index: Index, dist: &[usize; Sheet::NODES], n: usize) -> Turn
+    requires dist_len { (length dist.now ≡ most_nodes) × (n < length (held index.table.cells.now).nodes) × (1 < get_or dist.now n 0) }
+    ensures { (g : ℕ) → Distances (sheet_in index.entry.table.cells.now) g dist.now → Turned (sheet_in index.entry.table.cells.now) g dist.now n result }
 {
     let k = dist[n] - 1;
-    let count = branch_count(t, n);
-    let mut branch = 0;
-    while branch < count {
-        let b = branch_of(t, x, n, branch);
-        let m = node_toward(t, dist, b, k, x);
-        if m < Sheet::NODES {
-            return Turn { branch, node: m };
+    for (branch, &b) in index.branches_of(n).iter().enumerate() {
+        if let Some(node) = node_toward(index, dist, b, k) {
+            return Turn { branch, node };
         }
-        branch += 1;
     }
     Turn { branch: 0, node: n }
 }

@@ -1,5 +1,6 @@
 -- What lists numbers or writes a condition leaves the branch and the definition that are due. Assumes nothing.
-use Prim.Native.Nat.{ℕ, zero, suc, ◌≤◌, ◌<◌}
+use Prim.Native.Nat.{ℕ, zero, suc, ◌+◌, ◌≤◌, ◌<◌}
+use Rattle.std.specs.Prelude.{Some}
 use mathlib.Core.Path.{◌≡◌, refl, ap, ◌∙◌}
 use mathlib.Core.List.{List}
 use native.Mathlib.Omega.{arith}
@@ -10,11 +11,9 @@ use Rattle.tables.specs.Entries.{Entries}
 use Rattle.tables.specs.SheetOf.{cell_at}
 use Rattle.writing.specs.Written.{Place, Writer, say, ◌then◌, repeat, branch_done, def_done, listed_done, cell_done, number_text, listed_text, operands_text, expression_text, clauses_text, condition_text}
 use Rattle.texts.specs.Text.{field}
-use Rattle.writer.specs.Putting.{due, branch_on, def_on, Small, Puts}
-use Rattle.writer.proofs.Putting.{ahead, branch_used, def_used}
+use Rattle.writer.specs.Putting.{due, Small, Puts}
+use Rattle.writer.proofs.Putting.{went, small, ahead, branch_used, def_used}
 use Rattle.writer.specs.declared.Pen.{Pen}
-use Rattle.writer.specs.declared.Put.{Put}
-use Rattle.writer.specs.declared.Put.TheVariants.{On}
 
 unfoldable pub Keeps : Writer → Type 0
 Keeps f = (x : Place) → ((f x).1.branch ≡ x.branch) × ((f x).1.def ≡ x.def)
@@ -74,35 +73,30 @@ module _ (E : Entries) where
       (keeps_clauses (condition_text E d) (expression_text E d) (cell_at E x.cell) (keeps_condition d) (keeps_expression d))) x
 
 -- so they stay below the position
-module _ (f : Writer) (h : Keeps f) {u₀ u : List ℕ} {r : Put} (p q : Pen) (w : Puts u₀ p.at (f (due p)) r u) (e : r ≡ On q) where
+module _ (f : Writer) (h : Keeps f) {u₀ u : List ℕ} {p q : Pen} (w : Puts u₀ p.at (f (due p)) (Some q) u) where
   pub kept_branch : p.branch < p.at → q.branch < q.at
   unfolding Keeps
-  kept_branch l = let a = w.on q e in omega (arith, a.wrote.end, ap (λ x. x.branch) a.place, (h (due p)).0, l)
+  kept_branch l = let a = went w in omega (arith, a.wrote.end, ap (λ x. x.branch) a.place, (h (due p)).0, l)
 
   pub kept_def : p.def < p.at → q.def < q.at
   unfolding Keeps
-  kept_def l = let a = w.on q e in omega (arith, a.wrote.end, ap (λ x. x.def) a.place, (h (due p)).1, l)
+  kept_def l = let a = went w in omega (arith, a.wrote.end, ap (λ x. x.def) a.place, (h (due p)).1, l)
 
--- after a word, a number, listed numbers and a condition: the branch is used up
-module _ (E : Entries) (t : List ℕ) (n d : ℕ) {u₀ u₁ u₂ u₃ u : List ℕ} {r₁ r₂ r₃ r : Put} (p q l e f m : Pen) (s : Small p) (some : 1 ≤ length t)
-    (a : Puts u₀ p.at (say t (due p)) r₁ u₁) (a' : r₁ ≡ On q) (b : Puts u₁ q.at (say (field n) (due q)) r₂ u₂) (b' : r₂ ≡ On l)
-    (c : Puts u₂ l.at (repeat n (listed_text E) (due l)) r₃ u₃) (c' : r₃ ≡ On e) (g : Puts u₃ e.at (condition_text E d (due e)) r u) (g' : r ≡ On f)
-  where
-    pub reveal_used : m ≡ branch_on f → Puts u f.at (branch_done (due f)) (On m) u
-    reveal_used k =
-        rw k (branch_used u f (g.on f g').small
-        (kept_branch (condition_text E d) (keeps_condition E d) e f g g'
-        (kept_branch (repeat n (listed_text E)) (keeps_repeat n (listed_text E) (keeps_listed E)) l e c c'
-        (kept_branch (say (field n)) (keeps_say (field n)) q l b b' (ahead t p q s some a a').branches))))
+module _ (E : Entries) (t : List ℕ) {u₀ u₁ u₂ u₃ u : List ℕ} {p q l e f : Pen} (s : Small p) (some : 1 ≤ length t) (a : Puts u₀ p.at (say t (due p)) (Some q) u₁) where
+  -- after a word, a number, listed numbers and a condition the branch is used up
+  pub reveal_used : (n d : ℕ) → Puts u₁ q.at (say (field n) (due q)) (Some l) u₂ → Puts u₂ l.at (repeat n (listed_text E) (due l)) (Some e) u₃
+      → Puts u₃ e.at (condition_text E d (due e)) (Some f) u → Puts u f.at (branch_done (due f)) (Some (record f { branch = f.branch + 1 })) u
+  reveal_used n d b c g =
+      branch_used (small g)
+      (kept_branch (condition_text E d) (keeps_condition E d) g
+      (kept_branch (repeat n (listed_text E)) (keeps_repeat n (listed_text E) (keeps_listed E)) c
+      (kept_branch (say (field n)) (keeps_say (field n)) b (ahead t s some a).branches)))
 
--- after `def`, deposits, the count of secrets and owners: the definition is used up
-module _ (E : Entries) (t : List ℕ) (K n : ℕ) {u₀ u₁ u₂ u₃ u : List ℕ} {r₁ r₂ r₃ r : Put} (p q l e f m : Pen) (s : Small p) (some : 1 ≤ length t)
-    (a : Puts u₀ p.at (say t (due p)) r₁ u₁) (a' : r₁ ≡ On q) (b : Puts u₁ q.at (repeat K (listed_text E) (due q)) r₂ u₂) (b' : r₂ ≡ On l)
-    (c : Puts u₂ l.at (say (field n) (due l)) r₃ u₃) (c' : r₃ ≡ On e) (g : Puts u₃ e.at (repeat n (listed_text E) (due e)) r u) (g' : r ≡ On f)
-  where
-    pub owned_used : m ≡ def_on f → Puts u f.at (def_done (due f)) (On m) u
-    owned_used k =
-        rw k (def_used u f (g.on f g').small
-        (kept_def (repeat n (listed_text E)) (keeps_repeat n (listed_text E) (keeps_listed E)) e f g g'
-        (kept_def (say (field n)) (keeps_say (field n)) l e c c'
-        (kept_def (repeat K (listed_text E)) (keeps_repeat K (listed_text E) (keeps_listed E)) q l b b' (ahead t p q s some a a').defs))))
+  -- after `def`, deposits, the count of secrets and owners the definition is used up
+  pub owned_used : (K n : ℕ) → Puts u₁ q.at (repeat K (listed_text E) (due q)) (Some l) u₂ → Puts u₂ l.at (say (field n) (due l)) (Some e) u₃
+      → Puts u₃ e.at (repeat n (listed_text E) (due e)) (Some f) u → Puts u f.at (def_done (due f)) (Some (record f { def = f.def + 1 })) u
+  owned_used K n b c g =
+      def_used (small g)
+      (kept_def (repeat n (listed_text E)) (keeps_repeat n (listed_text E) (keeps_listed E)) g
+      (kept_def (say (field n)) (keeps_say (field n)) c
+      (kept_def (repeat K (listed_text E)) (keeps_repeat K (listed_text E) (keeps_listed E)) b (ahead t s some a).defs)))

@@ -1,5 +1,6 @@
 -- Which rule of the definition is due, by the numbers that the code has read: one law for each. Assumes nothing.
 use Prim.Native.Nat.{ℕ, zero, suc, ◌-◌, ◌≤◌}
+use Rattle.std.specs.Prelude.{Option}
 use mathlib.Core.Path.{◌≡◌, refl, sym, subst}
 use mathlib.Core.List.{List, [], ◌∷◌}
 use native.Mathlib.Omega.{arith}
@@ -9,14 +10,14 @@ use Rattle.tables.specs.SheetOf.{node_entry_at, branch_entry_at, def_entry_at, c
 use Rattle.texts.specs.Text.{letters, field}
 use Rattle.writing.specs.Written.{Place, Writer, word, say, ◌then◌, repeat, node_done, def_done, cell_done, expression_word, condition_word, number_text, listed_text, operands_text, expression_text, clauses_text, condition_text, leaf_text, part_text, split_text, reveal_text, action_text, branch_text, contract_text, def_text}
 use Rattle.writer.specs.Putting.{Puts}
-use Rattle.writer.specs.declared.Put.{Put}
+use Rattle.writer.specs.declared.Pen.{Pen}
 
 -- one less is what a positive number follows
 pub less_one : (A : ℕ → Type 0) (n : ℕ) → (n ≡ 0 → ⊥) → ((m : ℕ) → m ≡ n - 1 → A (suc m)) → A n
 less_one A zero h f = absurd (h refl)
 less_one A (suc m) h f = f m (let e : m ≡ suc m - 1 = omega arith in e)
 
-module _ {u₀ u : List ℕ} {at : ℕ} {r : Put} (E : Entries) (x : Place) where
+module _ {u₀ u : List ℕ} {at : ℕ} {r : Option Pen} (E : Entries) (x : Place) where
   -- ---- conditions
 
   pub operands_number : (f : Writer) (c : ℕ) → c ≤ 1 → Puts u₀ at (number_text E x) r u → Puts u₀ at (operands_text E f c x) r u
@@ -25,9 +26,9 @@ module _ {u₀ u : List ℕ} {at : ℕ} {r : Put} (E : Entries) (x : Place) wher
   operands_number f (suc zero) h k = k
   operands_number f (suc (suc c)) h k = absurd (omega arith)
 
-  pub operands_two : (f : Writer) (c : ℕ) → (c ≡ 0 → ⊥) → (c ≡ 1 → ⊥) → Puts u₀ at ((f then f) x) r u → Puts u₀ at (operands_text E f c x) r u
+  pub operands_two : (f : Writer) (c : ℕ) → 2 ≤ c → Puts u₀ at ((f then f) x) r u → Puts u₀ at (operands_text E f c x) r u
   unfolding operands_text
-  operands_two f c h i k = rw (ne_eqb c 0 h, ne_eqb c 1 i) k
+  operands_two f c h k = rw (ne_eqb c 0 (λ e. omega arith), ne_eqb c 1 (λ e. omega arith)) k
 
   pub expression_none : (d : ℕ) → d ≡ 0 → Puts u₀ at (say [] x) r u → Puts u₀ at (expression_text E d x) r u
   unfolding expression_text say
@@ -54,9 +55,9 @@ module _ {u₀ u : List ℕ} {at : ℕ} {r : Put} (E : Entries) (x : Place) wher
     unfolding clauses_text
     clauses_and e k = rw e k
 
-    pub clauses_two : (c ≡ 0 → ⊥) → (c ≡ 1 → ⊥) → (c ≡ 2 → ⊥) → Puts u₀ at ((g then g) x) r u → Puts u₀ at (clauses_text E f g c x) r u
+    pub clauses_two : 3 ≤ c → Puts u₀ at ((g then g) x) r u → Puts u₀ at (clauses_text E f g c x) r u
     unfolding clauses_text
-    clauses_two h i j k = rw (ne_eqb c 0 h, ne_eqb c 1 i, ne_eqb c 2 j) k
+    clauses_two h k = rw (ne_eqb c 0 (λ e. omega arith), ne_eqb c 1 (λ e. omega arith), ne_eqb c 2 (λ e. omega arith)) k
 
   pub condition-none : (d : ℕ) → d ≡ 0 → Puts u₀ at (say [] x) r u → Puts u₀ at (condition_text E d x) r u
   unfolding condition_text say
@@ -118,7 +119,7 @@ module _ (E : Entries) (f : Writer) (b n : ℕ) where
   unfolding action_text
   action_r k e h i = rw (sym h, e, sym i)
 
-  pub action_g : (k : ℕ) → (k ≡ 0 → ⊥) → (k ≡ 1 → ⊥) → (k ≡ 2 → ⊥) → k ≡ (branch_entry_at E b).kind → n ≡ (branch_entry_at E b).arg
+  pub action_g : (k : ℕ) → 3 ≤ k → k ≡ (branch_entry_at E b).kind → n ≡ (branch_entry_at E b).arg
       → action_text E f (branch_entry_at E b) ≡ leaf_text (word "g") n
   unfolding action_text
-  action_g k p q s h i = rw (sym h, ne_eqb k 0 p, ne_eqb k 1 q, ne_eqb k 2 s, sym i)
+  action_g k l h i = rw (sym h, ne_eqb k 0 (λ e. omega arith), ne_eqb k 1 (λ e. omega arith), ne_eqb k 2 (λ e. omega arith), sym i)

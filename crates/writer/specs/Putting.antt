@@ -1,11 +1,9 @@
 -- What the code has written: a piece of text in a buffer, and the entries that are due after it. Assumes nothing.
-use Rattle.std.specs.Prelude.{ℕ, ◌+◌, ◌≤◌, ◌<◌, ◌≡◌, cond, List, [], length, leb, ltb}
+use Rattle.std.specs.Prelude.{ℕ, ◌≤◌, ◌<◌, ◌+◌, ◌≡◌, cond, List, length, leb, ltb, Option, Some, None}
 use Rattle.tables.specs.Entries.{table_long, Within}
 use Rattle.texts.specs.Wrote.{Wrote}
 use Rattle.writing.specs.Written.{Place}
 use Rattle.writer.specs.declared.Pen.{Pen}
-use Rattle.writer.specs.declared.Put.{Put}
-use Rattle.writer.specs.declared.Put.TheVariants.{On, Full}
 
 -- A table of any contents whose counts lie within its sections
 abbrev pub Whole : List ℕ → Type 0
@@ -16,24 +14,6 @@ Whole t = (table_long ≤ length t) × Within t
 -- the entries that are due
 abbrev pub due : Pen → Place
 due p = record { node = p.node; branch = p.branch; def = p.def; listed = p.listed; cell = p.cell }
-
-abbrev pub pen_at : Pen → ℕ → Pen
-pen_at p e = record { at = e; node = p.node; branch = p.branch; def = p.def; listed = p.listed; cell = p.cell }
-
-abbrev pub node_on : Pen → Pen
-node_on p = record { at = p.at; node = p.node + 1; branch = p.branch; def = p.def; listed = p.listed; cell = p.cell }
-
-abbrev pub branch_on : Pen → Pen
-branch_on p = record { at = p.at; node = p.node; branch = p.branch + 1; def = p.def; listed = p.listed; cell = p.cell }
-
-abbrev pub def_on : Pen → Pen
-def_on p = record { at = p.at; node = p.node; branch = p.branch; def = p.def + 1; listed = p.listed; cell = p.cell }
-
-abbrev pub listed_on : Pen → Pen
-listed_on p = record { at = p.at; node = p.node; branch = p.branch; def = p.def; listed = p.listed + 1; cell = p.cell }
-
-abbrev pub cell_on : Pen → Pen
-cell_on p = record { at = p.at; node = p.node; branch = p.branch; def = p.def; listed = p.listed; cell = p.cell + 1 }
 
 -- within "32,768 bytes", and each entry that is used up took a byte: so no count wraps
 pub record Small (p : Pen) : Type 0 where
@@ -63,14 +43,14 @@ pub record Passed (u₀ : List ℕ) (at : ℕ) (w : List ℕ × Place) (u : List
   pub long : length u ≡ length u₀
 
 -- what a function has done that answers r
-pub record Puts (u₀ : List ℕ) (at : ℕ) (w : List ℕ × Place) (r : Put) (u : List ℕ) : Type 0 where
-  pub on : (p : Pen) → r ≡ On p → Went u₀ at w p u
-  pub full : r ≡ Full → Passed u₀ at w u
+pub record Puts (u₀ : List ℕ) (at : ℕ) (w : List ℕ × Place) (r : Option Pen) (u : List ℕ) : Type 0 where
+  pub on : (p : Pen) → r ≡ Some p → Went u₀ at w p u
+  pub full : r ≡ None → Passed u₀ at w u
 
 -- where writing stands after a piece of text that ends at e
-unfoldable pub stood : Pen → ℕ → Put
-stood p e = cond (ltb 32768 e) Full (On (pen_at p e))
+abbrev pub stood : Pen → ℕ → Option Pen
+stood p e = cond (ltb 32768 e) None (Some (record p { at = e }))
 
--- a text of over 32,768 bytes is no sheet's: nothing
-unfoldable pub short : List ℕ → List ℕ
-short xs = cond (leb (length xs) 32768) xs []
+-- a text of over 32,768 bytes is no sheet's: none
+unfoldable pub short : List ℕ → Option (List ℕ)
+short xs = cond (leb (length xs) 32768) (Some xs) None

@@ -9,16 +9,16 @@ use lib.Seq.{get_or-take, length-take-le}
 use lib.Dec.{eqb, ltb, leb}
 use borrow.Author.Tests.{eqb-true, le-leb}
 use Rattle.fields.specs.Field.{spelled, when_read, number_at, between_at, first_at, line_end_at}
-use Rattle.fields.specs.declared.Got.{Got}
-use Rattle.fields.specs.declared.Got.TheVariants as got
+use Rattle.fields.specs.Field.{Got}
+use Rattle.fields.specs.Field as got
 use Rattle.fields.proofs.Ranges.{when_read-cases, cond_cases, line-end-next}
 use Rattle.tables.specs.Entries.{Entries}
 use Rattle.tables.specs.State.{State, entries}
 use Rattle.steps.specs.Steps.{Outcome, next, either}
 use Rattle.steps.proofs.Ends.{refused}
 use Rattle.ranges.proofs.Accepted.{limited-short}
-use Rattle.lines.specs.declared.LineOne.{LineOne}
-use Rattle.lines.specs.declared.LineOne.TheVariants.{Counts, Bad}
+use Rattle.lines.specs.LineOne.{LineOne}
+use Rattle.lines.specs.LineOne.{Counts, Bad}
 use Rattle.lines.specs.LineOne.{counts_at, line_one_at}
 use Rattle.lines.specs.Definition.{define_at, blank}
 use Rattle.lines.specs.Sheet.{beyond, limited, accepted, accept, sizes, sheet_from, read_sheet}

@@ -8,7 +8,7 @@ use lib.ListN.{length, take}
 use lib.Dec.{eqb, ltb}
 use Rattle.bitml.specs.Lists.{◌&◌}
 use Rattle.fields.specs.Field.{spelled, packed, packed_of, number_at, between_at, first_at, line_end_at}
-use Rattle.fields.specs.declared.Got.TheVariants as got
+use Rattle.fields.specs.Field as got
 use Rattle.fields.proofs.Words.{Bytes}
 use Rattle.fields.proofs.Ranges.{when_read-cases, cond_cases, line-end-next}
 use Rattle.fields.proofs.Laws.{number-end}
@@ -16,8 +16,8 @@ use Rattle.tables.specs.Entries.{Entries}
 use Rattle.tables.specs.State.{State, entries}
 use Rattle.steps.specs.Steps.{Outcome}
 use Rattle.steps.proofs.Ends.{Ends, good, refused}
-use Rattle.lines.specs.declared.LineOne.{LineOne}
-use Rattle.lines.specs.declared.LineOne.TheVariants.{Counts, Bad}
+use Rattle.lines.specs.LineOne.{LineOne}
+use Rattle.lines.specs.LineOne.{Counts, Bad}
 use Rattle.lines.specs.LineOne.{counts_at, line_one_at}
 use Rattle.lines.specs.Definition.{blank}
 use Rattle.lines.specs.Sheet.{accepted, accept, sizes, sheet_from, read_sheet}

@@ -10,7 +10,7 @@ use borrow.Author.Tests.{eqb-true, eqb-false, ltb-true}
 use Rattle.bitml.specs.Lists.{◌&◌, every}
 use Rattle.bitml.proofs.Lists.{and_l, and_r}
 use Rattle.fields.specs.Field.{comma, packed, packed_of, number_at, word_at, any_number}
-use Rattle.fields.specs.declared.Got.TheVariants.{Value}
+use Rattle.fields.specs.Field.{Value}
 use Rattle.fields.proofs.Words.{Bytes}
 use Rattle.tables.specs.Entries.{Entries}
 use Rattle.tables.specs.SheetOf.{cell_at}

@@ -5,7 +5,7 @@ use mathlib.Core.List.{List, [], ◌∷◌, ◌++◌}
 use lib.ListN.{length}
 use Rattle.bitml.specs.Lists.{◌&◌}
 use Rattle.fields.specs.Field.{comma, packed, packed_of, number_at, word_at, any_number}
-use Rattle.fields.specs.declared.Got.TheVariants.{Value}
+use Rattle.fields.specs.Field.{Value}
 use Rattle.fields.proofs.Words.{Bytes}
 use Rattle.tables.specs.declared.Head.{Head}
 use Rattle.tables.specs.declared.Action.{Action}

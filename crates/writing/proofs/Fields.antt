@@ -11,8 +11,8 @@ use lib.Seq.{drop-cons, drop-drop, take-add}
 use lib.Dec.{ltb, leb, eqb}
 use borrow.Author.Tests.{eqb-true, eqb-false, ltb-true, ltb-false, leb-true, lt-ltb, le-ltb}
 use Rattle.fields.specs.Field.{comma, zero_digit, nine_digit, is_digit, all_digits, digits_on, digits_of, number_of, field_len, text_at, end_at, after_comma, up_to, number_at, packed_of, word_from, word_at, Num, Is, Not}
-use Rattle.fields.specs.declared.Got.{Got}
-use Rattle.fields.specs.declared.Got.TheVariants.{Value, Bad}
+use Rattle.fields.specs.Field.{Got}
+use Rattle.fields.specs.Field.{Value, Bad}
 use Rattle.fields.proofs.Ranges.{cond_cases}
 use Rattle.fields.proofs.Words.{Bytes, word-own, bytes-text}
 use Rattle.texts.specs.Text.{digits, decimal, field}

@@ -10,7 +10,7 @@ use lib.Dec.{eqb, ltb}
 use borrow.Author.Tests.{eqb-true, ltb-true}
 use Rattle.bitml.specs.Lists.{◌&◌}
 use Rattle.fields.specs.Field.{lf, spelled, packed, packed_of, field_len, text_at, end_at, word_from, first_at, line_end_at, any_number}
-use Rattle.fields.specs.declared.Got.TheVariants.{Value, Bad}
+use Rattle.fields.specs.Field.{Value, Bad}
 use Rattle.fields.proofs.Words.{Bytes, word-own, bytes-text}
 use Rattle.fields.proofs.Ranges.{cond_cases, first-end, line-end-next}
 use Rattle.tables.specs.Entries.{DefEntry}

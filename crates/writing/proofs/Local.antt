@@ -11,8 +11,8 @@ use lib.Seq.{drop-cons}
 use lib.Dec.{eqb, ltb}
 use borrow.Author.Tests.{eqb-true, lt-ltb, eq-eqb}
 use Rattle.fields.specs.Field.{is_sep, comma, lf, field_len, text_at, end_at, after_comma, up_to, packed_of, number_of, number_at, word_from, word_at, first_at, line_end_at}
-use Rattle.fields.specs.declared.Got.{Got}
-use Rattle.fields.specs.declared.Got.TheVariants as got
+use Rattle.fields.specs.Field.{Got}
+use Rattle.fields.specs.Field as got
 use Rattle.tables.specs.State.{State}
 use Rattle.steps.specs.Steps.{Outcome, next, bad, to_place, go_on, either, and_then, times}
 use Rattle.steps.proofs.Ends.{Ends, good, refused, ends-map, ends-field, ends_then}

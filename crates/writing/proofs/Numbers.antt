@@ -9,7 +9,7 @@ use lib.Seq.{get_or-drop, drop-drop, take-append_seam, drop-append_seam}
 use lib.Dec.{ltb}
 use borrow.Author.Tests.{ltb-true, ltb-false, lt-ltb, le-ltb, le-leb, eq-eqb, ne_eqb}
 use Rattle.fields.specs.Field.{comma, lf, zero_digit, all_digits, digits_on, digits_of, number_of, field_len, text_at, end_at, number_at, packed_of, word_from, first_at, line_end_at, Is}
-use Rattle.fields.specs.declared.Got.TheVariants.{Value}
+use Rattle.fields.specs.Field.{Value}
 use Rattle.fields.proofs.Laws.{number_by}
 use Rattle.fields.proofs.Runs.{digit_no_sep}
 use Rattle.fields.proofs.Ranges.{cond_cases}

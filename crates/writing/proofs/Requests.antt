@@ -11,13 +11,13 @@ use Rattle.bitml.specs.Rows.{Row}
 use Rattle.bitml.specs.Answers.{row_line}
 use Rattle.bitml.proofs.Lists.{all_head, all_tail}
 use Rattle.fields.specs.Field.{lf, any_number, field_len, packed, packed_of, when_read, below_at, between_at}
-use Rattle.fields.specs.declared.Got.TheVariants as got
+use Rattle.fields.specs.Field as got
 use Rattle.tables.specs.Entries.{Entries, most_nodes}
 use Rattle.tables.specs.SheetOf.{node_entry_at, def_entry_at}
 use Rattle.lines.specs.Sheet.{accepted, read_sheet}
 use Rattle.ranges.proofs.Reading.{sheet_ranged, sheet-inside}
-use Rattle.requests.specs.declared.Part.TheVariants as part
-use Rattle.requests.specs.declared.RowLine.TheVariants as row_Line
+use Rattle.requests.specs.LastPart as part
+use Rattle.requests.specs.RowLine as row_Line
 use Rattle.requests.specs.Part.{participant_at, last_participant_at, make_at, check_at, last_part_at}
 use Rattle.requests.specs.Rows.{most_rank, most_rows, RowFits, rows_with, row_numbers_at, row_at, rows_from, rows_at}
 use Rattle.requests.proofs.Laws.{rows_end, rows_on}
@@ -132,7 +132,7 @@ module _ (s : List ℕ) (counts : ℕ → ℕ) (nodes : ℕ) (few : nodes ≤ mo
       let v = rows-read (i + 1) (xs ++ (r ∷ [])) R w.0 (omega arith) (all_tail a) w.3 in
       let q : (xs ++ (r ∷ [])) ++ R ≡ xs ++ (r ∷ R) = append_assoc xs (r ∷ []) R in (
         v.0,
-        sym (rows_on s counts nodes xs at i _ (omega arith) w.1 refl r.node r.branch r.rank w.0 w.2) ∙ v.1
+        sym (rows_on s counts nodes xs at i (omega arith) w.1 r.node r.branch r.rank w.0 (sym w.2)) ∙ v.1
             ∙ ap (λ Q. rows_with Q (got.Value (length Q) v.0)) q,
       )
 

@@ -6,7 +6,7 @@ use native.Mathlib.Omega.{arith}
 use lib.ListN.{length, get_or, length-append}
 use lib.Seq.{append_snoc, get_or-append_seam}
 use Rattle.fields.specs.Field.{comma, number_at, word_at, packed_of}
-use Rattle.fields.specs.declared.Got.TheVariants.{Value}
+use Rattle.fields.specs.Field.{Value}
 use Rattle.fields.proofs.Laws.{number-end, word_end}
 use Rattle.fields.proofs.Words.{Bytes}
 use Rattle.tables.specs.Entries.{NodeEntry, BranchEntry, DefEntry, Entries}

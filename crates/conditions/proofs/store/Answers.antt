@@ -10,9 +10,6 @@ pub returns-then-left-eq0 : goal.returns-then-left-eq0
 unfolding store_at Leaves
 returns-then-left-eq0 c = record { met = yes' _ (none_left _ _ _ c.if-left-eq0.true) stop; leaves = tt }
 
-pub overflow_sub-result : goal.overflow_sub-result
-overflow_sub-result c = omega (arith, c.if-left-eq0.false)
-
 pub returns : goal.returns
 unfolding store_at Leaves
 returns c = let n = ap (λ (x : St). x.cells) c.put_cell-next.ensures.0 in

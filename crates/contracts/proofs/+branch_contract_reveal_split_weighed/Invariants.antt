@@ -1,10 +1,9 @@
 use Rattle.contracts.specs.Contract.{read_branch, read_contract, weighed_at}
 use Rattle.contracts.specs.Counts.{Few}
 use Rattle.steps.proofs.Laws.{Leads}
+use Rattle.steps.specs.Filling.{Same}
 use Rattle.steps.specs.Steps.{times}
 use Rattle.tables.specs.State.{state_of}
-use lib.ListN.{length}
-use mathlib.Core.Path.{◌≡◌}
 use Prim.Native.Nat.{◌-◌, ◌+◌, ◌*◌, ◌≤◌}
 use Rattle.contracts.proofs.+branch_contract_reveal_split_weighed.Given as goal
 
@@ -23,14 +22,8 @@ decreases-contract l = 5 * l.depth
 abbrev pub decreases-branch : goal.decreases-branch
 decreases-branch l = 5 * l.depth + 4
 
-abbrev pub invariant-contract-loop-left : goal.invariant-contract-loop-left
-invariant-contract-loop-left l = Leads (Few l.s l.lim) (times l.left (read_branch l.s l.lim (read_contract l.s l.lim (l.depth - 1)) l.id) (state_of l.cur l.t)) (times l.initial.left (read_branch l.s l.lim (read_contract l.s l.lim (l.depth - 1)) l.id) (state_of l.initial.cur l.initial.t)) × Few l.s l.lim l.cur × (length l.t ≡ length l.initial.t)
-
-abbrev pub decreases-contract-loop-left : goal.decreases-contract-loop-left
-decreases-contract-loop-left l = l.left
+abbrev pub invariant-contract-loop : goal.invariant-contract-loop
+invariant-contract-loop l = Leads (Few l.fn.filling.request.now l.lim) (times (l.n - l.counter) (read_branch l.fn.filling.request.now l.lim (read_contract l.fn.filling.request.now l.lim (l.depth - 1)) l.f.nodes) (state_of l.cur l.filling.table.now)) (times l.n (read_branch l.fn.filling.request.now l.lim (read_contract l.fn.filling.request.now l.lim (l.depth - 1)) l.f.nodes) (state_of l.initial.cur l.initial.filling.table.now)) × Few l.fn.filling.request.now l.lim l.cur × Same l.fn.filling l.filling
 
 abbrev pub invariant-weighed-loop-left : goal.invariant-weighed-loop-left
-invariant-weighed-loop-left l = Leads (Few l.s l.lim) (weighed_at l.s (read_contract l.s l.lim l.depth) l.parent l.sum l.left (state_of l.cur l.t)) (weighed_at l.s (read_contract l.s l.lim l.depth) l.parent l.initial.sum l.initial.left (state_of l.initial.cur l.initial.t)) × Few l.s l.lim l.cur × (length l.t ≡ length l.initial.t) × (l.sum + 1000 * l.left ≤ 8000)
-
-abbrev pub decreases-weighed-loop-left : goal.decreases-weighed-loop-left
-decreases-weighed-loop-left l = l.left
+invariant-weighed-loop-left l = Leads (Few l.fn.filling.request.now l.lim) (weighed_at l.fn.filling.request.now (read_contract l.fn.filling.request.now l.lim l.depth) l.parent l.sum l.left (state_of l.cur l.filling.table.now)) (weighed_at l.fn.filling.request.now (read_contract l.fn.filling.request.now l.lim l.depth) l.parent l.initial.sum l.n (state_of l.initial.cur l.initial.filling.table.now)) × Few l.fn.filling.request.now l.lim l.cur × (l.sum + 1000 * l.left ≤ 8000) × Same l.fn.filling l.filling

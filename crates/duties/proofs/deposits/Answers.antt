@@ -1,32 +1,17 @@
-use native.Mathlib.Omega.{arith}
+use Rattle.std.proofs.Common.{rules, tests, ◌∙◌, arith}
+use Rattle.std.proofs.lemmas.Iterator.{YieldsList-from_range, YieldsList-from_map}
+use Rattle.std.proofs.lemmas.Iterator.Consumers.{sum_from_yields_List, fits_from_yields_list}
 use Rattle.tables.specs.Entries.{held, people}
 use Rattle.tables.specs.SheetOf.{deposit_of}
-use Rattle.duties.proofs.Sums.{sum_more, sum-end, deposits-all, deposits-most}
+use Rattle.duties.proofs.Sums.{deposits-total, deposits-most}
 use Rattle.duties.proofs.deposits.Goals as goal
 
-pub loop-p-init : goal.loop-p-init
-loop-p-init c = let a = c.args in let z = deposits-all (people a.t.now) (held a.t.now) a.d in (omega arith, omega arith)
-
-pub def_deposit-sum-requires : goal.def_deposit-sum-requires
-def_deposit-sum-requires c = record { ready = c.requires.ready; d_in_bounds = (c.requires.d_in_bounds, omega (arith, c.people-k.ensures)) }
-
-pub overflow_add-sum : goal.overflow_add-sum
-overflow_add-sum c = let a = c.args in let l = c.loop-p in let E = held a.t.now in
-    let z = sum_more (deposit_of E a.d) l.p (people a.t.now) (omega (arith, c.people-k.ensures)) in
-    let y = deposits-most (people a.t.now) E a.d c.requires.ready.promises c.requires.d_in_bounds in
-    omega (arith, l.invariant.1, c.def_deposit-sum.ensures)
-
-pub overflow_add-p : goal.overflow_add-p
-overflow_add-p c = let l = c.loop-p in omega (arith, l.invariant.0, c.people-k.ensures, c.requires.ready.promises.limits.people)
-
-pub loop-p-smaller : goal.loop-p-smaller
-loop-p-smaller c = let l = c.loop-p in omega (arith, c.people-k.ensures)
-
-pub loop-p-preserved : goal.loop-p-preserved
-loop-p-preserved c = let a = c.args in let l = c.loop-p in let E = held a.t.now in
-    let z = sum_more (deposit_of E a.d) l.p (people a.t.now) (omega (arith, c.people-k.ensures)) in
-    (omega (arith, c.people-k.ensures), omega (arith, l.invariant.1, c.def_deposit-sum.ensures))
+pub sum-requires-clause-fits : goal.sum-requires-clause-fits
+sum-requires-clause-fits c = let a = c.args in let K = people a.table.cells.now in let E = held a.table.cells.now in
+    fits_from_yields_list c.map.result _ (YieldsList-from_map _ (deposit_of E a.d) (YieldsList-from_range 0 K K (cc) (omega arith)) c.map.ensures.closure (λ x r q k. search (rules, tests)))
+    (omega (arith, deposits-total K E a.d, deposits-most K E a.d a.table.ready.promises c.requires.d_in_bounds))
 
 pub returns : goal.returns
-returns c = let a = c.args in let l = c.loop-p in
-    let z = sum-end (deposit_of (held a.t.now) a.d) l.p (people a.t.now) (omega (arith, c.people-k.ensures)) in omega (arith, l.invariant.1)
+returns c = let a = c.args in let K = people a.table.cells.now in let E = held a.table.cells.now in
+    sum_from_yields_List c.map.result _ c.sum.ensures.ran (YieldsList-from_map _ (deposit_of E a.d) (YieldsList-from_range 0 K K (cc) (omega arith)) c.map.ensures.closure (λ x r q k. search (rules, tests)))
+    ∙ deposits-total K E a.d

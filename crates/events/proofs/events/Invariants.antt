@@ -5,7 +5,7 @@ use Rattle.events.specs.Events.{events_at}
 use Rattle.events.proofs.events.Given as goal
 
 abbrev pub invariant-loop-at : goal.invariant-loop-at
-invariant-loop-at l = events_at l.s l.people l.at ≡ events_at l.s l.people l.from
+invariant-loop-at l = events_at l.r.request.now l.people l.at ≡ events_at l.r.request.now l.people l.r.at
 
 abbrev pub decreases-loop-at : goal.decreases-loop-at
-decreases-loop-at l = length l.s - l.at
+decreases-loop-at l = length l.r.request.now - l.at

@@ -1,15 +1,15 @@
-use mathlib.Core.Path.{sym}
-use Rattle.exits.proofs.Costing.{better-none, better-first, better-less, better-more}
+use native.Mathlib.Omega.{arith}
+use mathlib.Core.Path.{sym, refl}
+use Rattle.exits.proofs.Costing.{better-first, better-less, better-more}
 use Rattle.exits.proofs.better.Goals as goal
 
-pub returns-then-k-eq0 : goal.returns-then-k-eq0
-returns-then-k-eq0 c = sym (better-none _ _ _ c.if-k-eq0.true)
+pub returns-in-Some : goal.returns-in-Some
+returns-in-Some c = let h = rw c.in-Some.is at c.requires.behind_some in
+    rw c.in-Some.is (sym (better-more c.args.rank c.args.b _ (λ z. omega arith) (omega arith)))
 
-pub returns-then-c-eq0 : goal.returns-then-c-eq0
-returns-then-c-eq0 c = sym (better-first _ _ _ c.if-k-eq0.false c.if-c-eq0.true)
+pub returns-in_default : goal.returns-in_default
+returns-in_default c = let h = rw c.in-Some.is at c.requires.behind_some in
+    rw c.in-Some.is (sym (better-less c.args.rank c.args.b _ (λ z. omega arith) (λ z. omega arith) (omega arith)))
 
-pub returns-then-k-c : goal.returns-then-k-c
-returns-then-k-c c = sym (better-less _ _ _ c.if-k-eq0.false c.if-c-eq0.false c.if-k-c.true)
-
-pub returns : goal.returns
-returns c = sym (better-more _ _ _ c.if-c-eq0.false c.if-k-c.false)
+pub returns-in_default-2 : goal.returns-in_default-2
+returns-in_default-2 c = rw c.in_default.is (sym (better-first c.args.rank c.args.b _ (λ z. omega arith) refl))

@@ -1,57 +1,51 @@
-use Rattle.exits.proofs.Costing.{cost-other, cost-none, cost-split, cost-reveal, ranked_reveal, ranked_split, served-one, served-not, kind_two}
-use Rattle.tables.specs.SheetOf.{branch_entry_at}
-use Rattle.tables.specs.Entries.{held, people}
-use lib.ListN.{get_or}
-use Prim.Native.Nat.{◌+◌}
-use mathlib.Core.Path.{◌≡◌, sym, ap, ◌∙◌}
 use native.Mathlib.Omega.{arith}
+use mathlib.Core.Path.{sym, ap, ◌∙◌}
+use lib.ListN.{get_or}
+use Rattle.tables.specs.Entries.{held, people}
+use Rattle.tables.specs.Kinds.{code}
+use Rattle.exits.specs.Costs.{some_rank}
+use Rattle.exits.proofs.Costing.{some-is, is-some, is-none, cost-other, cost-none, cost-split, cost-stuck, cost-step, cost-renewal, ranked-reveal, ranked-split}
 use Rattle.exits.proofs.cost.Goals as goal
 
-pub returns-then-kind-eq-WITHDRAW : goal.returns-then-kind-eq-WITHDRAW
-returns-then-kind-eq-WITHDRAW c = let a = c.args in
-    sym (cost-none (people a.t.now) (held a.t.now) a.p a.n a.b a.ranks.now (sym c.own.ensures ∙ c.if-own.true) (sym c.branch_kind-kind.ensures ∙ c.if-kind-eq-WITHDRAW.true))
+pub returns-then-not-own : goal.returns-then-not-own
+returns-then-not-own c = let a = c.args in
+    ap some_rank (sym (cost-other (people a.index.table.cells.now) (held a.index.table.cells.now) a.p a.n a.b a.ranks.now (sym c.if-not-own.ensures)))
 
-pub served-requires : goal.served-requires
-served-requires c = let a = c.args in let p = c.requires in
-    let k : (branch_entry_at (held a.t.now) a.b).kind ≡ 1 = sym c.branch_kind-kind.ensures ∙ c.if-kind-eq-SPLIT.true in
-    record { ready = p.ready; b_in_bounds = p.p_bound.2; ranked = ranked_split (people a.t.now) (held a.t.now) a.p a.n a.b a.ranks.now k p.ranked; indexed = p.indexed }
+pub served-requires-clause-ranked : goal.served-requires-clause-ranked
+served-requires-clause-ranked c = let a = c.args in
+    ranked-split (people a.index.table.cells.now) (held a.index.table.cells.now) a.p a.n a.b a.ranks.now (ap code (sym c.in_Split-index.is) ∙ c.branch-branch.ensures.kind) c.requires.ranked
 
-pub returns-then-kind-eq-SPLIT : goal.returns-then-kind-eq-SPLIT
-returns-then-kind-eq-SPLIT c = let a = c.args in
-    let k : (branch_entry_at (held a.t.now) a.b).kind ≡ 1 = sym c.branch_kind-kind.ensures ∙ c.if-kind-eq-SPLIT.true in
-    c.served.ensures ∙ sym (cost-split (people a.t.now) (held a.t.now) a.p a.n a.b a.ranks.now (sym c.own.ensures ∙ c.if-own.true) k)
+pub returns-in_Withdraw-index : goal.returns-in_Withdraw-index
+returns-in_Withdraw-index c = let a = c.args in
+    ap some_rank (sym (cost-none (people a.index.table.cells.now) (held a.index.table.cells.now) a.p a.n a.b a.ranks.now c.if-not-own.ensures (ap code (sym c.in_Withdraw-index.is) ∙ c.branch-branch.ensures.kind)))
 
-pub offset_bounds-ranks-m : goal.offset_bounds-ranks-m
-offset_bounds-ranks-m c = let a = c.args in
-    let k = kind_two (people a.t.now) (held a.t.now) a.p a.n a.b (sym c.own.ensures ∙ c.if-own.true) c.branch_kind-kind.ensures c.if-kind-eq-WITHDRAW.false c.if-kind-eq-SPLIT.false in
-    omega (arith, ranked_reveal (people a.t.now) (held a.t.now) a.p a.n a.b a.ranks.now k c.requires.ranked)
+pub returns-in_Split-index : goal.returns-in_Split-index
+returns-in_Split-index c = let a = c.args in
+    c.served.ensures ∙ ap some_rank (sym (cost-split (people a.index.table.cells.now) (held a.index.table.cells.now) a.p a.n a.b a.ranks.now c.if-not-own.ensures (ap code (sym c.in_Split-index.is) ∙ c.branch-branch.ensures.kind)))
 
-pub bounds-ranks-m : goal.bounds-ranks-m
-bounds-ranks-m c = let a = c.args in
-    let k = kind_two (people a.t.now) (held a.t.now) a.p a.n a.b (sym c.own.ensures ∙ c.if-own.true) c.branch_kind-kind.ensures c.if-kind-eq-WITHDRAW.false c.if-kind-eq-SPLIT.false in
-    omega (arith, ranked_reveal (people a.t.now) (held a.t.now) a.p a.n a.b a.ranks.now k c.requires.ranked)
+pub rank_of-requires : goal.rank_of-requires
+rank_of-requires c = let a = c.args in
+    let r = ranked-reveal (people a.index.table.cells.now) (held a.index.table.cells.now) a.p a.n a.b a.ranks.now (ap code (sym c.in_Reveal-index.is) ∙ c.branch-branch.ensures.kind) c.requires.ranked in
+    omega (arith, r, c.branch-branch.ensures.arg)
 
-pub returns-then-k-eq0 : goal.returns-then-k-eq0
-returns-then-k-eq0 c = let a = c.args in let o = sym c.own.ensures ∙ c.if-own.true in
-    let K = people a.t.now in let E = held a.t.now in
-    let k = kind_two K E a.p a.n a.b o c.branch_kind-kind.ensures c.if-kind-eq-WITHDRAW.false c.if-kind-eq-SPLIT.false in
-    let e = ap (λ m. get_or a.ranks.now m 0) c.branch_arg-m.ensures in
-    sym (cost-reveal K E a.p a.n a.b a.ranks.now o k ∙ served-not (get_or a.ranks.now (branch_entry_at E a.b).arg 0) (sym e ∙ c.if-k-eq0.true))
+pub returns-in_err-rank_of-in_Reveal-index : goal.returns-in_err-rank_of-in_Reveal-index
+returns-in_err-rank_of-in_Reveal-index c = let a = c.args in
+    let e = ap (λ m. get_or a.ranks.now m 0) (sym c.branch-branch.ensures.arg) in
+    c.from_residual.ensures ∙ ap some_rank (sym (cost-stuck (people a.index.table.cells.now) (held a.index.table.cells.now) a.p a.n a.b a.ranks.now c.if-not-own.ensures (ap code (sym c.in_Reveal-index.is) ∙ c.branch-branch.ensures.kind) _ e (is-none _ c.in_err-rank_of-in_Reveal-index.ensures)))
 
 pub overflow_add-result : goal.overflow_add-result
-overflow_add-result c = let a = c.args in let o = sym c.own.ensures ∙ c.if-own.true in
-    let K = people a.t.now in let E = held a.t.now in
-    let k = kind_two K E a.p a.n a.b o c.branch_kind-kind.ensures c.if-kind-eq-WITHDRAW.false c.if-kind-eq-SPLIT.false in
-    let e = ap (λ m. get_or a.ranks.now m 0) c.branch_arg-m.ensures in
-    omega (arith, e, ranked_reveal K E a.p a.n a.b a.ranks.now k c.requires.ranked)
+overflow_add-result c = let a = c.args in
+    let r = ranked-reveal (people a.index.table.cells.now) (held a.index.table.cells.now) a.p a.n a.b a.ranks.now (ap code (sym c.in_Reveal-index.is) ∙ c.branch-branch.ensures.kind) c.requires.ranked in
+    let e = ap (λ m. get_or a.ranks.now m 0) c.branch-branch.ensures.arg in
+    let k = is-some _ _ c.in_ok-rank_of-in_Reveal-index.ensures in
+    omega (arith, r, e, k.0)
 
-pub returns-then-own : goal.returns-then-own
-returns-then-own c = let a = c.args in let o = sym c.own.ensures ∙ c.if-own.true in
-    let K = people a.t.now in let E = held a.t.now in
-    let k = kind_two K E a.p a.n a.b o c.branch_kind-kind.ensures c.if-kind-eq-WITHDRAW.false c.if-kind-eq-SPLIT.false in
-    let e = ap (λ m. get_or a.ranks.now m 0) c.branch_arg-m.ensures in
-    ap (λ k. k + 1) e ∙ sym (cost-reveal K E a.p a.n a.b a.ranks.now o k ∙ served-one (get_or a.ranks.now (branch_entry_at E a.b).arg 0) (λ z. c.if-k-eq0.false (e ∙ z)))
+pub returns-in_ok-rank_of-in_Reveal-index : goal.returns-in_ok-rank_of-in_Reveal-index
+returns-in_ok-rank_of-in_Reveal-index c = let a = c.args in
+    let e = ap (λ m. get_or a.ranks.now m 0) (sym c.branch-branch.ensures.arg) in
+    let k = is-some _ _ c.in_ok-rank_of-in_Reveal-index.ensures in
+    some-is _ (omega arith) ∙ ap some_rank (sym (cost-step (people a.index.table.cells.now) (held a.index.table.cells.now) a.p a.n a.b a.ranks.now c.if-not-own.ensures (ap code (sym c.in_Reveal-index.is) ∙ c.branch-branch.ensures.kind) _ (e ∙ k.0) k.1))
 
-pub returns : goal.returns
-returns c = let a = c.args in
-    sym (cost-other (people a.t.now) (held a.t.now) a.p a.n a.b a.ranks.now (sym c.own.ensures ∙ c.if-own.false))
+pub returns-in_Renew-index : goal.returns-in_Renew-index
+returns-in_Renew-index c = let a = c.args in
+    ap some_rank (sym (cost-renewal (people a.index.table.cells.now) (held a.index.table.cells.now) a.p a.n a.b a.ranks.now c.if-not-own.ensures (ap code (sym c.in_Renew-index.is) ∙ c.branch-branch.ensures.kind)))

@@ -1,22 +1,19 @@
 use native.Mathlib.Omega.{arith}
-use mathlib.Core.Path.{sym, ap, ◌∙◌}
-use mathlib.Core.Logic.{⊎_elim}
-use Rattle.exits.specs.Made.{stuck_by, first_or}
-use Rattle.exits.proofs.Buffer.{keep_skip, keep-take, keep-end, keep_all, stuck-none, stuck-here, stuck_ranked}
+use Prim.Native.Nat.{◌-◌}
+use mathlib.Core.Path.{◌≡◌, refl, sym, ap, ◌∙◌}
+use borrow.Author.Tests.{tests}
+use Rattle.std.proofs.Common.{rules, ◌&&◌, not, eqb, get_or}
+use Rattle.std.specs.List.{find}
+use Rattle.std.proofs.lemmas.Iterator.Adapters.{option_map_id}
+use Rattle.std.proofs.lemmas.Iterator.{YieldsList-from_range}
+use Rattle.std.proofs.lemmas.Iterator.Search.{find_from_yields_List}
+use Rattle.sheets.proofs.Chains.{range-up}
+use Rattle.exits.specs.Made.{stuck_by}
+use Rattle.exits.proofs.Buffer.{stuck-test}
 use Rattle.exits.proofs.first_stuck.Goals as goal
-use Rattle.exits.proofs.first_stuck.Goals.{then-marks-i-ne0+else-ranks-i-eq0, else-marks-i-ne0}
-
-pub loop-i-init : goal.loop-i-init
-loop-i-init c = let a = c.args in (omega arith, keep_all (stuck_by a.marks.now a.ranks.now) a.n)
-
-pub returns-then-ranks-i-eq0 : goal.returns-then-ranks-i-eq0
-returns-then-ranks-i-eq0 c = let a = c.args in let l = c.loop-i in let T = stuck_by a.marks.now a.ranks.now in
-    ap (first_or a.n) (sym (keep-take T l.i a.n (omega arith) (stuck-here a.marks.now a.ranks.now l.i c.if-marks-i-ne0.true c.if-ranks-i-eq0.true)) ∙ l.invariant.1)
-
-pub loop-i-preserved : goal.loop-i-preserved
-loop-i-preserved c = let a = c.args in let l = c.loop-i in let T = stuck_by a.marks.now a.ranks.now in
-    (omega arith, sym (keep_skip T l.i a.n (omega arith) (elim c.if-marks-i-ne0.branch [ then-marks-i-ne0+else-ranks-i-eq0 w ↦ stuck_ranked a.marks.now a.ranks.now l.i w.if-ranks-i-eq0.false | else-marks-i-ne0 w ↦ stuck-none a.marks.now a.ranks.now l.i w.if-marks-i-ne0.false ])) ∙ l.invariant.1)
 
 pub returns : goal.returns
-returns c = let a = c.args in let l = c.loop-i in let T = stuck_by a.marks.now a.ranks.now in
-    ap (first_or a.n) (sym (keep-end T l.i a.n (omega arith)) ∙ l.invariant.1)
+returns c = let a = c.args in let T = stuck_by a.marks.now a.ranks.now in let n : a.n - 0 ≡ a.n = omega arith in
+    sym (option_map_id c.find.result) ∙ find_from_yields_List T _ _ c.find.result c.find.ensures.ran (YieldsList-from_range 0 a.n a.n refl n) (λ x b q k.
+    let w : (q ≡ (a.marks, a.ranks)) × (b ≡ (not (eqb (get_or a.marks.now x 0) 0) && eqb (get_or a.ranks.now x 0) 0)) = search (rules, tests) in (w.0, w.1 ∙ stuck-test a.marks.now a.ranks.now x))
+    ∙ ap (find T) (range-up 0 a.n)

@@ -1,19 +1,19 @@
-use borrow.Author.Tests.{eq-eqb, ne_eqb, lt-ltb, le-ltb}
+use native.Mathlib.Omega.{arith}
+use mathlib.Core.Path.{sym, ◌∙◌}
+use borrow.Author.Tests.{eq-eqb, lt-ltb, le-ltb}
 use Rattle.fields.specs.Field.{packed_of}
+use Rattle.fields.proofs.Laws.{packed_some}
+use Rattle.fields.proofs.packed_of.Goals.{then-is_empty-via-then-is_empty, then-is_empty-via-else-is_empty+then-text-gt-LETTERS, then-is_empty-via-else-is_empty+else-text-gt-LETTERS+then-text-eq0}
 use Rattle.fields.proofs.packed_of.Goals as goal
 
-pub returns-then-text-eq0 : goal.returns-then-text-eq0
+pub returns-then-is_empty : goal.returns-then-is_empty
 unfolding packed_of
-returns-then-text-eq0 c = rw (eq-eqb _ _ c.if-text-eq0.true)
+returns-then-is_empty c = elim c.then-is_empty.branch [
+  | then-is_empty-via-then-is_empty w ↦ rw (sym c.is_empty.ensures ∙ w.if-is_empty.true)
+  | then-is_empty-via-else-is_empty+then-text-gt-LETTERS w ↦ rw (sym c.is_empty.ensures ∙ w.if-is_empty.false, lt-ltb _ _ w.if-text-gt-LETTERS.true)
+  | then-is_empty-via-else-is_empty+else-text-gt-LETTERS+then-text-eq0 w ↦ rw (sym c.is_empty.ensures ∙ w.if-is_empty.false, le-ltb _ _ w.if-text-gt-LETTERS.false, eq-eqb _ _ w.if-text-eq0.true)
+]
 
-pub returns-then-text-gt-LETTERS : goal.returns-then-text-gt-LETTERS
-unfolding packed_of
-returns-then-text-gt-LETTERS c = rw (ne_eqb _ _ c.if-text-eq0.false, lt-ltb _ _ c.if-text-gt-LETTERS.true)
-
-pub returns-then-text-eq0-2 : goal.returns-then-text-eq0-2
-unfolding packed_of
-returns-then-text-eq0-2 c = rw (ne_eqb _ _ c.if-text-eq0.false, le-ltb _ _ c.if-text-gt-LETTERS.false, eq-eqb _ _ c.if-text-eq0-2.true)
-
+-- the tests by what they say, and not by their names: a wrong one is refused for it
 pub returns : goal.returns
-unfolding packed_of
-returns c = rw (ne_eqb _ _ c.if-text-eq0.false, le-ltb _ _ c.if-text-gt-LETTERS.false, ne_eqb _ _ c.if-text-eq0-2.false) c.pack.ensures
+returns c = c.pack.ensures ∙ sym (packed_some _ (sym c.is_empty.ensures ∙ c.if-is_empty.false) (omega arith) (omega arith))

@@ -1,15 +1,10 @@
-use borrow.Author.Tests.{eq-eqb, ne_eqb, lt-ltb, le-ltb}
-use Rattle.fields.specs.Field.{word_at}
+use mathlib.Core.Path.{◌∙◌}
+use Rattle.std.proofs.lemmas.Result.{err_from_is_err_and}
+use Rattle.fields.proofs.Laws.{word_missing, word_after}
 use Rattle.fields.proofs.word.Goals as goal
 
-pub returns-then-s-at : goal.returns-then-s-at
-unfolding word_at
-returns-then-s-at c = rw (le-ltb _ _ c.if-s-at.true)
-
-pub returns-then-s-at-ne-COMMA : goal.returns-then-s-at-ne-COMMA
-unfolding word_at
-returns-then-s-at-ne-COMMA c = rw (lt-ltb _ _ c.if-s-at.false, ne_eqb _ _ c.if-s-at-ne-COMMA.true)
+pub returns-in_err-after_comma : goal.returns-in_err-after_comma
+returns-in_err-after_comma c = let p = err_from_is_err_and c.from_residual.result c.from_residual.ensures.1 in rw (p.1, p.2) (word_missing c.args.s.now c.args.at _ _ c.in_err-after_comma.ensures)
 
 pub returns : goal.returns
-unfolding word_at
-returns c = rw (lt-ltb _ _ c.if-s-at.false, eq-eqb _ _ c.if-s-at-ne-COMMA.false) c.bare_word.ensures
+returns c = c.bare_word.ensures ∙ word_after _ _ _ c.in_ok-after_comma.ensures

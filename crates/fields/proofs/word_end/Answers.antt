@@ -1,5 +1,7 @@
 use native.Mathlib.Omega.{arith}
+use Rattle.fields.proofs.Laws.{four_long}
 use Rattle.fields.proofs.word_end.Goals as goal
 
-pub returns-then-four : goal.returns-then-four
-returns-then-four c = omega (arith, c.four.ensures c.if-four.true)
+-- the tests by what they say, and not by their names: a wrong one is refused for it
+pub returns-then-s-from-eq-COMMA : goal.returns-then-s-from-eq-COMMA
+returns-then-s-from-eq-COMMA c = omega (arith, four_long c.args.s.now c.args.from (omega arith) (omega arith) (omega arith) (omega arith) (omega arith) (omega arith))

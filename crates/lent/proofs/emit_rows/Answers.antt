@@ -1,14 +1,18 @@
-use Rattle.std.proofs.Common.{◌∙◌, arith}
-use Rattle.lent.proofs.Structs.{struct_none, written_next, written_all}
+use Rattle.std.proofs.Common.{◌∙◌, ◌≡◌, ap, arith, rules, length, replicate, ◌-◌}
+use Rattle.lent.specs.Structs.{no_row}
+use Rattle.lent.proofs.Structs.{struct_from, written, written_next, written_all}
 use Rattle.lent.proofs.emit_rows.Goals as goal
 
 pub loop-i-preserved : goal.loop-i-preserved
 loop-i-preserved c = let l = c.loop-i in let a = c.args in
-    record { place = omega arith; rows = rw (l.invariant.rows, c.row_of.ensures) (written_next a.numbers.now a.rows.now l.i (omega arith)) }
-
-pub loop-i-2-preserved : goal.loop-i-2-preserved
-loop-i-2-preserved c = let l = c.loop-i-2 in let a = c.args in
-    record { place = omega arith; past = λ h. omega arith; rows = rw (l.invariant.rows, struct_none a.numbers.now l.i (omega arith)) (written_next a.numbers.now a.rows.now l.i (omega arith)) }
+    rw (l.invariant, c.row_of.ensures, struct_from) (written_next a.numbers.now a.rows.now l.i (omega arith))
 
 pub returns : goal.returns
-returns c = let l = c.loop-i-2 in let a = c.args in l.invariant.rows ∙ written_all a.numbers.now a.rows.now l.i (omega arith)
+returns c =
+    let n = c.min-held.result in
+    let a = c.args in
+    let r = c.loop-i.rows in
+    let d : c.default.result ≡ no_row = search rules in
+    let f : c.fill.new.self ≡ replicate (length r - n) no_row = search rules in
+    let z : c.loop-i.i ≡ n = omega arith in
+    rw f (written_all a.numbers.now a.rows.now r n (omega arith) (λ h. omega arith) (c.loop-i.invariant ∙ ap (written a.numbers.now a.rows.now) z))

@@ -1,18 +1,18 @@
 use Rattle.lines.proofs.Laws.{twice-last}
-use Rattle.lines.proofs.Answer.{accepted-is, refused-is, all_known}
+use Rattle.lines.proofs.Answer.{Counted, accepted-is, beyond-is, refused-is, all_known}
+use Rattle.steps.proofs.Laws.{promised}
 use native.Mathlib.Omega.{arith}
-use Prim.Native.Nat.{◌-◌}
-use lib.Pow.{pow_mono}
 use Rattle.lines.proofs.after_line_one.Goals as goal
 
-pub overflow_mul-z : goal.overflow_mul-z
-overflow_mul-z c = omega (arith, c.mask_of.ensures, pow_mono {i = c.args.k - 1} {j = 15} (omega arith))
+pub returns-in-Err-clause-met : goal.returns-in-Err-clause-met
+returns-in-Err-clause-met c = refused-is _ _ _ _ _ _ _ _ _ _ (all_known _ _ _ _ _ _ _ (twice-last _ c.requires.le_k.0 c.mask_of.ensures) c.in-Err.ensures.met) (rw (c.definitions.ensures.same.0) at c.limited.ensures)
 
-pub put_header-requires : goal.put_header-requires
-put_header-requires c = omega (arith, c.definitions-g.auto.t, c.requires.spacious)
+pub passing-requires : goal.passing-requires
+passing-requires c = let d = promised c.in-Ok.ensures.met in rw c.definitions.ensures.same.0 (omega (arith, d.between.inside, c.if-e-gt-BYTES.true), omega arith)
 
-pub returns-in-Value : goal.returns-in-Value
-returns-in-Value c = accepted-is _ _ _ _ _ _ _ _ _ (record { some-people = c.requires.le_k.0; few-people = c.requires.le_k.1; some-defs = c.requires.le_k.2; few-defs = c.requires.le_k.3; inside = c.requires.at_in_bounds.0 }) (c.limit-h.ensures _ _ _ (all_known _ _ _ _ _ _ _ (twice-last _ c.requires.le_k.0 c.mask_of.ensures) c.definitions-g.ensures)) c.in-Value.is c.put_header.ensures
+pub returns-then-e-gt-BYTES-clause-met : goal.returns-then-e-gt-BYTES-clause-met
+returns-then-e-gt-BYTES-clause-met c = beyond-is _ _ _ _ _ _ _ _ (all_known _ _ _ _ _ _ _ (twice-last _ c.requires.le_k.0 c.mask_of.ensures) c.in-Ok.ensures.met) c.if-e-gt-BYTES.true (rw (c.definitions.ensures.same.0) at c.passing.ensures)
 
-pub returns-in-Bad : goal.returns-in-Bad
-returns-in-Bad c = refused-is _ _ _ _ _ _ _ _ (c.limit-h.ensures _ _ _ (all_known _ _ _ _ _ _ _ (twice-last _ c.requires.le_k.0 c.mask_of.ensures) c.definitions-g.ensures)) c.in-Bad.is
+pub returns-clause-met : goal.returns-clause-met
+returns-clause-met c = let d : Counted _ _ _ _ = record { some-people = c.requires.le_k.0; few-people = c.requires.le_k.1; some-defs = c.requires.le_k.2; few-defs = c.requires.le_k.3; inside = c.requires.at_in_bounds.0 } in
+    accepted-is _ _ _ _ _ _ _ d (all_known _ _ _ _ _ _ _ (twice-last _ c.requires.le_k.0 c.mask_of.ensures) c.in-Ok.ensures.met) c.if-e-gt-BYTES.false c.put_header.ensures

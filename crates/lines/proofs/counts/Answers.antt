@@ -1,19 +1,20 @@
+use Rattle.std.proofs.lemmas.Result.{err_from_is_err_and}
 use Rattle.fields.specs.Field.{when_read}
 use Rattle.lines.specs.LineOne.{counts_at}
 use Rattle.lines.proofs.counts.Goals as goal
 
-pub returns-in-Value-l : goal.returns-in-Value-l
+pub returns-in_err-k : goal.returns-in_err-k
 unfolding counts_at when_read
-returns-in-Value-l c = rw (← c.number_between-h.ensures, c.in-Value.is, ← c.number_between-i.ensures, c.in-Value-i.is, ← c.line_end_from-l.ensures, c.in-Value-l.is)
+returns-in_err-k c = let p = err_from_is_err_and c.from_residual.result c.from_residual.ensures.1 in rw (p.1, p.2, ← c.in_err-k.ensures)
 
-pub returns-in-Bad-l : goal.returns-in-Bad-l
+pub returns-in_err-n : goal.returns-in_err-n
 unfolding counts_at when_read
-returns-in-Bad-l c = rw (← c.number_between-h.ensures, c.in-Value.is, ← c.number_between-i.ensures, c.in-Value-i.is, ← c.line_end_from-l.ensures, c.in-Bad-l.is)
+returns-in_err-n c = let p = err_from_is_err_and c.from_residual-in_err-n.result c.from_residual-in_err-n.ensures.1 in rw (p.1, p.2, ← c.in_ok-k.ensures, ← c.in_err-n.ensures)
 
-pub returns-in-Bad-i : goal.returns-in-Bad-i
+pub returns-in_err-e : goal.returns-in_err-e
 unfolding counts_at when_read
-returns-in-Bad-i c = rw (← c.number_between-h.ensures, c.in-Value.is, ← c.number_between-i.ensures, c.in-Bad-i.is)
+returns-in_err-e c = let p = err_from_is_err_and c.from_residual-in_err-e.result c.from_residual-in_err-e.ensures.1 in rw (p.1, p.2, ← c.in_ok-k.ensures, ← c.in_ok-n.ensures, ← c.in_err-e.ensures)
 
-pub returns-in-Bad : goal.returns-in-Bad
+pub returns : goal.returns
 unfolding counts_at when_read
-returns-in-Bad c = rw (← c.number_between-h.ensures, c.in-Bad.is)
+returns c = rw (← c.in_ok-k.ensures, ← c.in_ok-n.ensures, ← c.in_ok-e.ensures)

@@ -1,26 +1,20 @@
-use Rattle.steps.proofs.Laws.{called, call_refused, done, promised, times_more, times_none}
+use Rattle.steps.proofs.Laws.{told_state-err, called, call_refused, done, promised, times_more, times_none}
 use native.Mathlib.Omega.{arith}
-use mathlib.Core.Path.{refl, ◌∙◌}
-use Rattle.lines.proofs.Laws.{from_blank, nothing-between, defined_more, defined_all}
+use borrow.Author.Rules.{rules}
+use mathlib.Core.Path.{◌≡◌, refl}
+use Rattle.lines.proofs.Laws.{from_blank, nothing-between, defined_more}
 use Rattle.lines.proofs.definitions.Goals as goal
 
-pub loop-left-init : goal.loop-left-init
-loop-left-init c = ((λ r t m. from_blank _ _ _ _ _ _ _ m), nothing-between _ _ _ c.requires.at_in_bounds.0 c.requires.at_in_bounds.1, refl, omega arith)
+pub loop-init : goal.loop-init
+loop-init c = ((λ r t m. from_blank _ _ _ _ _ _ _ m), nothing-between _ _ c.requires.at_in_bounds.0 c.requires.at_in_bounds.1, search rules)
 
-pub define-g-requires : goal.define-g-requires
-define-g-requires c = let d = c.loop-left.invariant.1 in record { spacious = omega (arith, c.loop-left.invariant.2, c.requires.spacious); between = d.between; defs_lt_most_defs = (omega (arith, d.now_defs, c.loop-left.invariant.3, c.loop-left-test.true, c.requires.n_le_most_defs.0), c.requires.n_le_most_defs.1) }
+pub returns-in_err-cur-clause-met : goal.returns-in_err-cur-clause-met
+returns-in_err-cur-clause-met c = c.loop.invariant.0 _ _ (times_more _ _ _ _ c.loop-test.true _ _ (call_refused _ (rw (c.loop.invariant.2.0) at c.in_err-cur.ensures.met) (told_state-err _ _ c.from_residual.ensures.1)))
 
-pub shape_of-t-in_default : goal.shape_of-t-in_default
-shape_of-t-in_default c = c.define-g.auto.t ∙ c.loop-left.invariant.2
+pub loop-preserved : goal.loop-preserved
+loop-preserved c = let m = rw (c.loop.invariant.2.0) at c.in_ok-cur.ensures.met in
+    ((λ r t h. c.loop.invariant.0 _ _ (times_more _ _ _ _ c.loop-test.true _ _ (called _ m h))), defined_more _ _ _ _ c.loop.invariant.1 (promised m), search rules)
 
-pub returns-in_default : goal.returns-in_default
-returns-in_default c = c.loop-left.invariant.0 _ _ (times_more _ _ _ c.loop-left-test.true _ _ (call_refused _ c.define-g.ensures c.in_default.is))
-
-pub loop-left-preserved : goal.loop-left-preserved
-loop-left-preserved c = ((λ r t m. c.loop-left.invariant.0 _ _ (times_more _ _ _ c.loop-left-test.true _ _ (called _ c.define-g.ensures c.in-Value.is m))), defined_more _ _ _ _ _ c.loop-left.invariant.1 (promised c.define-g.ensures c.in-Value.is) c.loop-left-test.true c.loop-left.invariant.3, c.define-g.auto.t ∙ c.loop-left.invariant.2, omega (arith, c.loop-left.invariant.3))
-
-pub shape_of-t : goal.shape_of-t
-shape_of-t c = c.loop-left.invariant.2
-
-pub returns : goal.returns
-returns c = c.loop-left.invariant.0 _ _ (times_none _ _ _ c.loop-left-test.false _ _ (done refl (defined_all _ _ _ _ c.loop-left.invariant.1 c.loop-left-test.false)))
+pub returns-clause-met : goal.returns-clause-met
+returns-clause-met c = let e : c.loop.counter ≡ c.args.n = omega (arith, c.loop-test.false, c.loop.auto.counter-end) in
+    c.loop.invariant.0 _ _ (times_none _ _ _ _ c.loop-test.false _ _ (done refl (rw (← e) c.loop.invariant.1)))

@@ -1,17 +1,10 @@
-use Rattle.steps.proofs.Laws.{called, call_refused, promised}
-use native.Mathlib.Omega.{arith}
+use Rattle.steps.proofs.Laws.{told_state-err, called, call_refused, promised}
 use mathlib.Core.Path.{refl}
-use Rattle.lines.proofs.Laws.{root_from, finish, between-ready, few-root, defined}
+use Rattle.lines.proofs.Laws.{root_from, finish, defined}
 use Rattle.lines.proofs.root.Goals as goal
 
-pub put_def-next-requires : goal.put_def-next-requires
-put_def-next-requires c = record { cells_from_in_bounds = omega (arith, c.requires.spacious); fits = (between-ready _ _ _ c.requires.between (omega arith) c.requires.defs_lt_most_defs).fits; defs_lt_most_defs = c.requires.defs_lt_most_defs }
+pub returns-in_err-e-clause-met : goal.returns-in_err-e-clause-met
+returns-in_err-e-clause-met c = root_from _ _ _ _ _ _ _ _ c.put_def-next.ensures.1 _ _ (call_refused _ c.in_err-e.ensures.met (told_state-err _ _ c.from_residual.ensures.1))
 
-pub contract-g-requires : goal.contract-g-requires
-contract-g-requires c = record { spacious = omega (arith, c.put_def-next.auto.t, c.requires.spacious); few = few-root _ _ _ _ c.requires.between c.requires.defs_lt_most_defs c.put_def-next.ensures.0 refl }
-
-pub returns-in_default : goal.returns-in_default
-returns-in_default c = root_from _ _ _ _ _ _ _ _ c.put_def-next.ensures.1 _ _ (call_refused _ c.contract-g.ensures c.in_default.is)
-
-pub returns : goal.returns
-returns c = root_from _ _ _ _ _ _ _ _ c.put_def-next.ensures.1 _ _ (called _ c.contract-g.ensures c.in-Value.is (finish _ _ _ _ _ c.end_line.ensures (λ e k. defined _ _ _ _ _ (promised c.contract-g.ensures c.in-Value.is) refl k)))
+pub returns-clause-met : goal.returns-clause-met
+returns-clause-met c = root_from _ _ _ _ _ _ _ _ c.put_def-next.ensures.1 _ _ (called _ c.in_ok-e.ensures.met (finish _ _ _ _ _ (rw (c.contract.ensures.same.0) at c.end_line.ensures) (λ e k. defined _ _ _ _ _ (promised c.in_ok-e.ensures.met) refl k)))

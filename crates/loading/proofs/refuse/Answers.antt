@@ -4,4 +4,4 @@ use Rattle.buffer.proofs.Buffer.{filled_none}
 use Rattle.loading.proofs.refuse.Goals as goal
 
 pub returns : goal.returns
-returns c = record { value = c.declined.ensures; t_after = c.clear.ensures ∙ sym (filled_none (length c.args.t.now)) }
+returns c = record { value = c.declined.ensures ∙ rw c.number.ensures; t_after = c.clear.ensures ∙ sym (filled_none (length c.args.t.now)) }

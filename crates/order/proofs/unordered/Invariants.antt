@@ -1,4 +1,4 @@
-use Prim.Native.Nat.{◌≤◌, ◌+◌, ◌-◌}
+use Prim.Native.Nat.{◌+◌}
 use mathlib.Core.Path.{◌≡◌}
 use lib.ListN.{drop}
 use Rattle.bitml.specs.Rows.{repeated}
@@ -7,7 +7,4 @@ use Rattle.order.specs.Nodes.{Known}
 use Rattle.order.proofs.unordered.Given as goal
 
 abbrev pub invariant-loop-j : goal.invariant-loop-j
-invariant-loop-j l = (l.j ≤ l.n) × Known (rows_of l.j l.rows) l.ranks × (repeated (l.j + 1) (rows_of l.j l.rows) (drop l.j (rows_of l.n l.rows)) ≡ repeated (l.from + 1) (rows_of l.from l.rows) (drop l.from (rows_of l.n l.rows)))
-
-abbrev pub decreases-loop-j : goal.decreases-loop-j
-decreases-loop-j l = l.n - l.j
+invariant-loop-j l = Known (rows_of l.j l.rows) l.ranks × (repeated (l.j + 1) (rows_of l.j l.rows) (drop l.j (rows_of l.n l.rows)) ≡ repeated (l.from + 1) (rows_of l.from l.rows) (drop l.from (rows_of l.n l.rows)))

@@ -1,18 +1,8 @@
 use Rattle.pages.specs.Pages.{size, start}
 use mathlib.Core.Path.{refl}
 use native.Mathlib.Omega.{arith}
-use lib.ListN.{length-set}
 use Rattle.pages.proofs.Laws.{then_put}
 use Rattle.pages.proofs.put_contract.Goals as goal
-
-pub bounds-cells-c-2 : goal.bounds-cells-c-2
-bounds-cells-c-2 c = simp length-set (omega arith)
-
-pub bounds-cells-c-3 : goal.bounds-cells-c-3
-bounds-cells-c-3 c = simp length-set (omega arith)
-
-pub bounds-cells-c-4 : goal.bounds-cells-c-4
-bounds-cells-c-4 c = simp length-set (omega arith)
 
 pub returns : goal.returns
 unfolding size start

@@ -1,12 +1,8 @@
 use Rattle.pages.specs.Pages.{size, start}
 use mathlib.Core.Path.{refl}
 use native.Mathlib.Omega.{arith}
-use lib.ListN.{length-set}
 use Rattle.pages.proofs.Laws.{then_put}
 use Rattle.pages.proofs.put_secret.Goals as goal
-
-pub bounds-cells-k-2 : goal.bounds-cells-k-2
-bounds-cells-k-2 c = simp length-set (omega arith)
 
 pub returns : goal.returns
 unfolding size start

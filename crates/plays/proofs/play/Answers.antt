@@ -1,44 +1,37 @@
 use native.Mathlib.Omega.{arith}
-use mathlib.Core.Path.{refl, sym, ap, subst, ◌∙◌}
-use Prim.Native.Nat.{ℕ, ◌<◌}
-use borrow.Author.Tests.{lt-ltb}
 use lib.ListN.{length}
-use Rattle.pages.specs.Pages.{pages_in}
-use Rattle.counts.specs.Book.{book}
 use Rattle.plays.proofs.Looping.{plays-start, plays-room, plays-line, plays-ends, plays-inside, plays_good, plays-more, left_falls, within}
 use Rattle.plays.proofs.play.Goals as goal
 
 pub loop-due-init : goal.loop-due-init
-loop-due-init c = let a = c.args in let n = c.new-now in
-    (a.to, plays-start a.s.now a.t.now a.to a.first a.text.now n.result.counts n.result.cells.now c.due_at-due.result n.ensures.0.fit n.ensures.1 c.requires.7 c.requires.4 c.due_at-due.ensures)
-
-pub act-now-requires : goal.act-now-requires
-act-now-requires c = let p = c.loop-due.invariant.1 in (c.requires.0, record { fit = p.goes.fit; long = p.long }, c.requires.1, p.due.range)
+loop-due-init c = let n = c.new-now in
+    (c.args.to, plays-start _ _ _ _ _ n.result.counts n.result.cells.now _ n.ensures.0.fit n.ensures.1 c.requires.5 c.requires.2 c.due_at-due.ensures)
 
 pub note-due-requires : goal.note-due-requires
 note-due-requires c =
-    let p = plays-room c.args.s.now c.args.t.now c.args.to c.args.first c.args.text.now (book c.new-now.result.counts (pages_in c.new-now.result.cells.now)) c.requires.3 c.requires.5 c.requires.6 c.loop-due.invariant.1 in
-    (c.requires.0, plays-inside c.args.s.now c.args.t.now c.args.to c.args.first c.args.text.now (book c.new-now.result.counts (pages_in c.new-now.result.cells.now)) c.requires.3 c.requires.5 c.requires.6 c.loop-due.invariant.1 c.loop-due-test.true, plays_good c.args.s.now c.args.t.now c.args.to c.args.first c.args.text.now (book c.new-now.result.counts (pages_in c.new-now.result.cells.now)) c.requires.3 c.requires.5 c.requires.6 c.loop-due.invariant.1 c.loop-due-test.true, plays-line c.args.s.now c.args.t.now c.args.to c.args.first c.args.text.now (book c.new-now.result.counts (pages_in c.new-now.result.cells.now)) c.requires.3 c.requires.5 c.requires.6 c.loop-due.invariant.1, omega (arith, p))
+    let r = c.requires in
+    let p = c.loop-due.invariant.1 in (
+      plays-inside _ _ _ _ _ _ r.1 r.3 r.4 p _ c.in-Some.is,
+      plays_good _ _ _ _ _ _ r.1 r.3 r.4 p _ c.in-Some.is,
+      plays-line _ _ _ _ _ _ r.1 r.3 r.4 p,
+      let e = plays-room _ _ _ _ _ _ r.1 r.3 r.4 p in omega arith,
+    )
 
 pub loop-due-smaller : goal.loop-due-smaller
 loop-due-smaller c =
-    let q = plays-more c.args.s.now c.args.t.now c.args.to c.args.first c.args.text.now (book c.new-now.result.counts (pages_in c.new-now.result.cells.now)) c.requires.3 c.requires.5 c.requires.6 c.loop-due.invariant.1 c.loop-due-test.true c.act-now.result.counts c.act-now.result.cells.now c.note-due.result c.note-due.new.text c.act-now.ensures.does c.act-now.ensures.long c.note-due.ensures in
-    let f = left_falls (length c.args.s.now) c.loop-due.due.next c.note-due.result.kind c.note-due.result.next
-    (within c.args.s.now c.args.t.now c.args.to c.args.first c.args.text.now (book c.new-now.result.counts (pages_in c.new-now.result.cells.now)) c.requires.3 c.requires.5 c.requires.6 q) in
-    rw (lt-ltb c.loop-due.due.kind 5 c.loop-due-test.true) f
+    let r = c.requires in
+    let q = plays-more _ _ _ _ _ _ r.1 r.3 r.4 c.loop-due.invariant.1 _ c.in-Some.is _ _ _ _ c.act-now.ensures.does c.act-now.ensures.long c.note-due.ensures in
+    let f = left_falls (length c.args.s.now) c.loop-due.due.next c.note-due.result.next c.note-due.result.event (within _ _ _ _ _ _ r.1 r.3 r.4 q) in
+    rw c.in-Some.is f
 
 pub loop-due-preserved : goal.loop-due-preserved
 loop-due-preserved c =
-    (c.loop-due.due.next, plays-more c.args.s.now c.args.t.now c.args.to c.args.first c.args.text.now (book c.new-now.result.counts (pages_in c.new-now.result.cells.now)) c.requires.3 c.requires.5 c.requires.6 c.loop-due.invariant.1 c.loop-due-test.true c.act-now.result.counts c.act-now.result.cells.now c.note-due.result c.note-due.new.text c.act-now.ensures.does c.act-now.ensures.long c.note-due.ensures)
-
-pub end-requires-clause-fit : goal.end-requires-clause-fit
-end-requires-clause-fit c = c.loop-due.invariant.1.goes.fit
-
-pub end-requires-clause-at_in_bounds : goal.end-requires-clause-at_in_bounds
-end-requires-clause-at_in_bounds c =
-    let p = plays-room c.args.s.now c.args.t.now c.args.to c.args.first c.args.text.now (book c.new-now.result.counts (pages_in c.new-now.result.cells.now)) c.requires.3 c.requires.5 c.requires.6 c.loop-due.invariant.1 in
-    let q = c.loop-due.invariant.1.long in (omega (arith, p), omega (arith, q))
+    let r = c.requires in (
+      c.loop-due.due.next,
+      plays-more _ _ _ _ _ _ r.1 r.3 r.4 c.loop-due.invariant.1 _ c.in-Some.is _ _ _ _ c.act-now.ensures.does c.act-now.ensures.long c.note-due.ensures,
+    )
 
 pub returns : goal.returns
 returns c =
-    plays-ends c.args.s.now c.args.t.now c.args.to c.args.first c.args.text.now (book c.new-now.result.counts (pages_in c.new-now.result.cells.now)) c.requires.3 c.requires.5 c.requires.6 c.loop-due.invariant.1 c.loop-due-test.false _ c.new-now.ensures.0.plain c.end.new.text c.end.result c.end.ensures
+    let r = c.requires in
+    plays-ends _ _ _ _ _ _ r.1 r.3 r.4 c.loop-due.invariant.1 c.in_default.is _ c.new-now.ensures.0.plain _ _ c.end.ensures

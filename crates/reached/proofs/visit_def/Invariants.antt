@@ -1,12 +1,12 @@
-use Prim.Native.Nat.{◌≤◌, ◌-◌}
-use lib.ListN.{length}
-use Rattle.reached.specs.Marks.{Marked, Grown, DefLed}
+use Prim.Native.Nat.{◌≤◌}
+use Rattle.reached.specs.Marks.{Searched, Grown, DefLed}
 use Rattle.tables.specs.SheetOf.{def_entry_at}
-use Rattle.tables.specs.Entries.{held, people}
+use Rattle.tables.specs.Entries.{held}
 use Rattle.reached.proofs.visit_def.Given as goal
 
 abbrev pub invariant-loop-n : goal.invariant-loop-n
-invariant-loop-n l = ((def_entry_at (held l.t) l.d).root ≤ l.n) × Marked (people l.t) (held l.t) l.seen l.queue l.end × Grown l.initial.seen l.seen × DefLed (held l.t) l.seen l.d (def_entry_at (held l.t) l.d).root l.n
-
-abbrev pub decreases-loop-n : goal.decreases-loop-n
-decreases-loop-n l = length (held l.t).nodes - l.n
+invariant-loop-n l =
+    let t = l.index.table.cells.now in
+    let s = l.search in
+    let root = (def_entry_at (held t) l.d).root in
+    Searched t s × Grown l.initial.search.marks.now s.marks.now × (root ≤ l.n) × DefLed (held t) s.marks.now l.d root l.n

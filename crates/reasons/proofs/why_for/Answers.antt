@@ -1,5 +1,4 @@
 use mathlib.Core.Path.{refl, sym, ◌∙◌}
-use native.Mathlib.Omega.{arith}
 use Rattle.reached.proofs.Queue.{no_marks}
 use Rattle.replies.proofs.Giving.{gives_as, gives_long}
 use Rattle.exits.proofs.Told.{told-frozen}
@@ -8,18 +7,18 @@ use borrow.Author.Rules.{rules}
 use Rattle.reasons.proofs.why_for.Goals as goal
 
 pub reach-requires : goal.reach-requires
-reach-requires c = record { ready = c.requires.ready; marks_len = no_marks; indexed = c.index.ensures }
+reach-requires c = record { marks_len = no_marks }
 
-pub make-v-requires : goal.make-v-requires
-make-v-requires c = record { ready = c.requires.ready; p_bound = (c.requires.p_bound.0, c.requires.p_bound.1); indexed = c.index.ensures; marks_reached = c.reach.ensures }
-
-pub put_reason-f-requires : goal.put_reason-f-requires
-put_reason-f-requires c = record { ready = c.requires.ready; p_bound = (c.requires.p_bound.0, omega (arith, c.requires.p_bound.2)); indexed = c.index.ensures; p_value = told-frozen _ _ (sym c.in-Frozen.is ∙ c.make-v.ensures.value) }
+pub put_reason-requires-clause-p_value : goal.put_reason-requires-clause-p_value
+put_reason-requires-clause-p_value c = told-frozen _ _ (sym c.in-Frozen.is ∙ c.make.ensures.value)
 
 pub returns-in-Liquid : goal.returns-in-Liquid
-returns-in-Liquid c = gives_as c.answered.ensures
-    (gives_long (why_gives _ _ _ _ _ _ _ _ c.clear.ensures c.clear-in-Liquid.ensures (wrote-liquid c.args.t.now c.requires.ready _ _ (sym c.in-Liquid.is ∙ c.make-v.ensures.value) c.put_liquid-e.ensures)) (search rules) refl)
+returns-in-Liquid c =
+    let t = c.index-index.result.table in
+    let w = wrote-liquid t.cells.now t.ready _ _ (sym c.in-Liquid.is ∙ c.make.ensures.value) c.put_liquid.ensures in
+    rw (← c.index-index.ensures) (gives_as c.answered.ensures (gives_long (why_gives _ _ _ _ _ _ _ _ c.clear.ensures c.clear-in-Liquid.ensures w) (search rules) refl))
 
 pub returns-in-Frozen : goal.returns-in-Frozen
-returns-in-Frozen c = gives_as c.answered-in-Frozen.ensures
-    (frozen_gives _ _ _ _ _ _ _ _ c.clear.ensures _ (told-frozen _ _ (sym c.in-Frozen.is ∙ c.make-v.ensures.value)) c.make-v.ensures.rows_after c.put_reason-f.ensures)
+returns-in-Frozen c =
+    let e = told-frozen _ _ (sym c.in-Frozen.is ∙ c.make.ensures.value) in
+    rw (← c.index-index.ensures) (gives_as c.answered-in-Frozen.ensures (frozen_gives _ _ _ _ _ _ _ _ c.clear.ensures _ e c.make.ensures.rows_after c.put_reason.ensures))

@@ -1,8 +1,9 @@
-use Prim.Native.Nat.{◌+◌, ◌<◌}
+use Prim.Native.Nat.{◌+◌}
 use mathlib.Core.Path.{◌∙◌, refl, ap}
 use native.Mathlib.Omega.{arith}
-use Rattle.requests.proofs.Laws.{rows_on, rows-bad, rows_end, rows-full, holds}
-use Rattle.requests.specs.Rows.{most_rows, rows_at}
+use Rattle.std.proofs.lemmas.Result.{err_from_is_err_and}
+use Rattle.requests.proofs.Laws.{row-numbers, rows_on, rows-none, rows-other, rows-bad, rows_end, rows-full, holds}
+use Rattle.requests.specs.Rows.{rows_at}
 use Rattle.tables.specs.Entries.{first_of}
 use Rattle.buffer.specs.Buffer.{past_rows, rows_of}
 use Rattle.buffer.proofs.Buffer.{row_more, row-rest, rest_more, rows-length}
@@ -12,40 +13,41 @@ pub loop-at-init : goal.loop-at-init
 unfolding rows_of first_of
 loop-at-init c = (omega arith, refl, refl, refl)
 
-pub shape_of-buffer-then-i-eq-ROWS : goal.shape_of-buffer-then-i-eq-ROWS
-shape_of-buffer-then-i-eq-ROWS c = c.loop-at.invariant.1
+pub returns-in_err-w : goal.returns-in_err-w
+unfolding rows_at
+returns-in_err-w c =
+    let p = err_from_is_err_and c.from_residual.result c.from_residual.ensures.1 in
+    let l = c.loop-at in
+    rw (p.1, p.2) (holds _ _ _ _ l.i (rows-none _ _ _ _ _ _ _ _ c.loop-at-test.true c.in_err-w.ensures ∙ l.invariant.3) l.invariant.2)
+
+pub returns-then-w-ne-ROW : goal.returns-then-w-ne-ROW
+unfolding rows_at
+returns-then-w-ne-ROW c =
+    let l = c.loop-at in
+    rw c.refused.ensures (holds _ _ _ _ l.i (rows-other _ _ _ _ _ _ _ _ c.loop-at-test.true c.in_ok-w.ensures c.if-w-ne-ROW.true ∙ l.invariant.3) l.invariant.2)
 
 pub returns-then-i-eq-ROWS : goal.returns-then-i-eq-ROWS
 unfolding rows_at
-returns-then-i-eq-ROWS c = holds _ _ _ _ c.loop-at.i (rows-full _ _ _ _ _ _ _ c.if-i-eq-ROWS.true c.loop-at-test.true c.no_room.ensures ∙ c.loop-at.invariant.3) c.loop-at.invariant.2
+returns-then-i-eq-ROWS c =
+    let l = c.loop-at in
+    rw c.refused-then-i-eq-ROWS.ensures
+    (holds _ _ _ _ l.i (rows-full _ _ _ _ _ _ _ _ c.loop-at-test.true c.in_ok-w.ensures c.if-w-ne-ROW.false c.if-i-eq-ROWS.true ∙ l.invariant.3) l.invariant.2)
 
-pub put_row-requires : goal.put_row-requires
-put_row-requires c = omega arith
-
-pub overflow_add-i : goal.overflow_add-i
-overflow_add-i c = omega arith
-
-pub loop-at-smaller : goal.loop-at-smaller
-loop-at-smaller c = omega arith
+pub returns-in_err-row : goal.returns-in_err-row
+unfolding rows_at
+returns-in_err-row c =
+    let p = err_from_is_err_and c.from_residual-in_err-row.result c.from_residual-in_err-row.ensures.1 in
+    let l = c.loop-at in
+    rw (p.1, p.2) (holds _ _ _ _ l.i (rows-bad _ _ _ _ _ _ (omega arith) c.loop-at-test.true _ _ (c.in_err-row.ensures ∙ row-numbers _ _ _ _ _ _ c.in_ok-w.ensures c.if-w-ne-ROW.false) ∙ l.invariant.3) l.invariant.2)
 
 pub loop-at-preserved : goal.loop-at-preserved
-loop-at-preserved c = let l : c.loop-at.i < most_rows = omega arith in let u = c.loop-at.buffer in let i = c.loop-at.i in (
-  omega arith,
-  c.put_row.auto.u ∙ c.loop-at.invariant.1,
-  ap (past_rows (i + 1)) c.put_row.ensures ∙ row-rest u i _ ∙ rest_more _ _ _ c.loop-at.invariant.2,
-  rw (c.put_row.ensures, row_more u i _ (omega arith)) (rows_on _ _ _ _ _ _ _ l c.loop-at-test.true c.row_line-g.ensures _ _ _ _ c.in-Row.is ∙ c.loop-at.invariant.3),
-)
-
-pub shape_of-buffer-in-Bad : goal.shape_of-buffer-in-Bad
-shape_of-buffer-in-Bad c = c.loop-at.invariant.1
-
-pub returns-in-Bad : goal.returns-in-Bad
-unfolding rows_at
-returns-in-Bad c = let l : c.loop-at.i < most_rows = omega arith in
-    holds _ _ _ _ c.loop-at.i (rows-bad _ _ _ _ _ _ _ l c.loop-at-test.true c.row_line-g.ensures _ _ c.in-Bad.is ∙ c.loop-at.invariant.3) c.loop-at.invariant.2
-
-pub shape_of-buffer : goal.shape_of-buffer
-shape_of-buffer c = c.loop-at.invariant.1
+loop-at-preserved c =
+    let l = c.loop-at in (
+      omega arith,
+      c.put_row.auto.u ∙ l.invariant.1,
+      ap (past_rows (l.i + 1)) c.put_row.ensures ∙ row-rest l.buffer l.i _ ∙ rest_more _ _ _ l.invariant.2,
+      rw (c.put_row.ensures, row_more l.buffer l.i _ (omega arith)) (rows_on _ _ _ _ _ _ (omega arith) c.loop-at-test.true _ _ _ _ (c.in_ok-row.ensures ∙ row-numbers _ _ _ _ _ _ c.in_ok-w.ensures c.if-w-ne-ROW.false) ∙ l.invariant.3),
+    )
 
 pub returns : goal.returns
 unfolding rows_at

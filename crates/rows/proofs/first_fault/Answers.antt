@@ -1,31 +1,28 @@
-use native.Mathlib.Omega.{arith}
 use mathlib.Core.Path.{sym, ap, ◌∙◌}
 use lib.ListN.{get_or}
+use Rattle.std.proofs.lemmas.Result.{err_from_is_err_and}
 use Rattle.bitml.specs.Rows.{Fault}
 use Rattle.tables.specs.Entries.{held, people}
 use Rattle.tables.specs.SheetOf.{sheet_in}
 use Rattle.buffer.specs.Buffer.{rows_of}
+use Rattle.refusals.proofs.Numbers.{number-some}
 use Rattle.order.specs.Nodes.{as_fault}
 use Rattle.rows.proofs.Promised.{rows-small}
 use Rattle.rows.proofs.Judged.{check-order, check-root, check-rest}
 use Rattle.rows.proofs.first_fault.Goals as goal
 
-pub index-order-requires : goal.index-order-requires
-index-order-requires c = let a = c.args in let p = c.requires in record { rows_small = rows-small a.t.now a.rows.now a.n p.ready p.rows_fit; known = p.known }
+pub index-requires-clause-rows_small : goal.index-requires-clause-rows_small
+index-requires-clause-rows_small c = let a = c.args in let t = a.index.table in rows-small t.cells.now a.rows.now a.n t.ready c.requires.rows_fit
 
-pub returns-then-order-ne0 : goal.returns-then-order-ne0
-returns-then-order-ne0 c = let a = c.args in let i = c.index-order in
-    record { result_value = check-order (sheet_in a.t.now) a.p (rows_of a.n a.rows.now) (as_fault i.result) i.ensures.result_value c.if-order-ne0.true; known_2 = λ z. absurd (c.if-order-ne0.true z) }
+pub returns-in_err-index-clause-value : goal.returns-in_err-index-clause-value
+returns-in_err-index-clause-value c = let a = c.args in let f = c.in_err-index.field-0.0 in
+    let p = err_from_is_err_and c.from_residual.result c.from_residual.ensures.1 in
+    rw (p.1, p.2) (check-order (sheet_in a.index.table.cells.now) a.p (rows_of a.n a.rows.now) (as_fault f) c.in_err-index.ensures.value (number-some f.refusal))
 
-pub returns-then-ranks-root-eq0 : goal.returns-then-ranks-root-eq0
-returns-then-ranks-root-eq0 c = let a = c.args in let p = c.requires in let i = c.index-order.ensures in let z = c.if-order-ne0.false in let A = c.index-order.new.ranks in
-    let e = sym (ap (λ (f : Fault). f.number) i.result_value) ∙ z in
-    record { result_value = check-root (people a.t.now) (held a.t.now) a.p p.ready.promises (rows_of a.n a.rows.now) A (i.known_2 z) e (ap (λ m. get_or A m 0) (sym c.def_root-root.ensures) ∙ c.if-ranks-root-eq0.true); known_2 = λ z. absurd (omega arith) }
+pub returns-then-ranks-definition-eq0-clause-value : goal.returns-then-ranks-definition-eq0-clause-value
+returns-then-ranks-definition-eq0-clause-value c = let a = c.args in let t = a.index.table in let A = c.index.new.ranks in let i = c.in_ok-index.ensures in
+    check-root (people t.cells.now) (held t.cells.now) a.p t.ready.promises (rows_of a.n a.rows.now) A i.ranks_known (sym (ap (λ (f : Fault). f.number) i.value)) (ap (λ m. get_or A m 0) (sym c.definition.ensures.root) ∙ c.if-ranks-definition-eq0.true)
 
-pub faults-requires : goal.faults-requires
-faults-requires c = let p = c.requires in record { ready = p.ready; p_bound = p.p_bound; rows_fit = p.rows_fit; known = c.index-order.ensures.known_2 c.if-order-ne0.false; indexed = p.indexed }
-
-pub returns : goal.returns
-returns c = let a = c.args in let p = c.requires in let i = c.index-order.ensures in let z = c.if-order-ne0.false in let A = c.index-order.new.ranks in
-    let e = sym (ap (λ (f : Fault). f.number) i.result_value) ∙ z in
-    record { result_value = c.faults.ensures ∙ check-rest (people a.t.now) (held a.t.now) a.p p.ready.promises (rows_of a.n a.rows.now) A (i.known_2 z) e (λ q. c.if-ranks-root-eq0.false (ap (λ m. get_or A m 0) c.def_root-root.ensures ∙ q)); known_2 = λ q. i.known_2 z }
+pub returns-clause-value : goal.returns-clause-value
+returns-clause-value c = let a = c.args in let t = a.index.table in let A = c.index.new.ranks in let i = c.in_ok-index.ensures in
+    c.faults.ensures ∙ check-rest (people t.cells.now) (held t.cells.now) a.p t.ready.promises (rows_of a.n a.rows.now) A i.ranks_known (sym (ap (λ (f : Fault). f.number) i.value)) (λ q. c.if-ranks-definition-eq0.false (ap (λ m. get_or A m 0) c.definition.ensures.root ∙ q))

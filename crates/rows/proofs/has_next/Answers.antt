@@ -1,36 +1,18 @@
-use native.Mathlib.Omega.{arith}
-use mathlib.Core.Path.{◌≡◌, sym, ap, ◌∙◌}
+use mathlib.Core.Path.{sym, ap, ◌∙◌}
 use mathlib.Core.Bool.{not}
 use lib.ListN.{get_or}
 use lib.Dec.{eqb}
 use Rattle.tables.specs.Entries.{held, people}
-use Rattle.tables.specs.SheetOf.{branch_entry_at, def_entry_at}
-use Rattle.rows.proofs.Judged.{next-has, next-root}
+use Rattle.tables.specs.SheetOf.{def_entry_at}
+use Rattle.tables.specs.Kinds.{code}
+use Rattle.rows.proofs.Judged.{renew-is, next-has, next-root}
 use Rattle.rows.proofs.has_next.Goals as goal
 
-pub returns-then-branch_kind-ne-RENEW : goal.returns-then-branch_kind-ne-RENEW
-returns-then-branch_kind-ne-RENEW c = let a = c.args in let p = c.requires in
-    c.has_parts.ensures ∙ next-has (people a.t.now) (held a.t.now) p.ready.promises a.ranks.now a.b p.b_in_bounds (λ e. c.if-branch_kind-ne-RENEW.true (c.branch_kind.ensures ∙ e))
+pub returns-in_Renew-index : goal.returns-in_Renew-index
+returns-in_Renew-index c = let a = c.args in let t = a.index.table in let E = held t.cells.now in
+    ap (λ m. not (eqb (get_or a.ranks.now m 0) 0)) (c.definition.ensures.root ∙ ap (λ d. (def_entry_at E d).root) c.branch-branch.ensures.arg)
+    ∙ next-root (people t.cells.now) E t.ready.promises a.ranks.now a.b c.requires.b_in_bounds (sym c.branch-branch.ensures.kind ∙ ap code c.in_Renew-index.is)
 
-pub def_root-root-requires : goal.def_root-root-requires
-def_root-root-requires c = let a = c.args in let p = c.requires in let ok = p.ready.promises in
-    let k : (branch_entry_at (held a.t.now) a.b).kind ≡ 3 = sym c.branch_kind.ensures ∙ c.if-branch_kind-ne-RENEW.false in
-    let d = ((ok.branch a.b p.b_in_bounds).renew k).definition in
-    record { ready = p.ready; d_in_bounds = omega (arith, c.branch_arg-d.ensures) }
-
-pub offset_bounds-ranks-root : goal.offset_bounds-ranks-root
-offset_bounds-ranks-root c = let a = c.args in let p = c.requires in let ok = p.ready.promises in
-    let k : (branch_entry_at (held a.t.now) a.b).kind ≡ 3 = sym c.branch_kind.ensures ∙ c.if-branch_kind-ne-RENEW.false in
-    let d = ((ok.branch a.b p.b_in_bounds).renew k).definition in
-    omega (arith, c.def_root-root.ensures, ok.limits.nodes, (ok.def c.branch_arg-d.result (omega (arith, c.branch_arg-d.ensures))).root)
-
-pub bounds-ranks-root : goal.bounds-ranks-root
-bounds-ranks-root c = let a = c.args in let p = c.requires in let ok = p.ready.promises in
-    let k : (branch_entry_at (held a.t.now) a.b).kind ≡ 3 = sym c.branch_kind.ensures ∙ c.if-branch_kind-ne-RENEW.false in
-    let d = ((ok.branch a.b p.b_in_bounds).renew k).definition in
-    omega (arith, c.def_root-root.ensures, ok.limits.nodes, (ok.def c.branch_arg-d.result (omega (arith, c.branch_arg-d.ensures))).root)
-
-pub returns : goal.returns
-returns c = let a = c.args in let p = c.requires in let E = held a.t.now in
-    ap (λ m. not (eqb (get_or a.ranks.now m 0) 0)) (c.def_root-root.ensures ∙ ap (λ d. (def_entry_at E d).root) c.branch_arg-d.ensures)
-    ∙ next-root (people a.t.now) E p.ready.promises a.ranks.now a.b p.b_in_bounds (sym c.branch_kind.ensures ∙ c.if-branch_kind-ne-RENEW.false)
+pub returns-in_default-index : goal.returns-in_default-index
+returns-in_default-index c = let a = c.args in let t = a.index.table in
+    c.has_parts.ensures ∙ next-has (people t.cells.now) (held t.cells.now) t.ready.promises a.ranks.now a.b c.requires.b_in_bounds (λ e. c.in_default-index.not-Renew (renew-is _ (c.branch-branch.ensures.kind ∙ e)))

@@ -1,33 +1,27 @@
 use native.Mathlib.Omega.{arith}
-use mathlib.Core.Path.{refl, sym, ap, ◌∙◌}
+use Prim.Native.Nat.{◌<◌}
+use mathlib.Core.Path.{ap, ◌∙◌}
+use lib.ListN.{length, get_or}
+use Rattle.std.proofs.Common.{rules, tests}
+use Rattle.std.proofs.lemmas.Grind.{get_or_default_zero}
+use Rattle.std.proofs.lemmas.Iterator.{YieldsList-from_slice}
+use Rattle.std.proofs.lemmas.Iterator.Adapters.{serves_from_places}
+use Rattle.std.proofs.lemmas.Iterator.Search.{all_from_yields_List}
+use Rattle.bitml.specs.Lists.{every}
 use Rattle.tables.specs.Entries.{held, people}
-use Rattle.tables.specs.SheetOf.{branch_numbers, branch_number, branch_count}
+use Rattle.tables.specs.SheetOf.{branch_number, branch_count}
 use Rattle.tables.proofs.SheetOf.{branch-small}
+use Rattle.sheets.proofs.Chains.{all-every}
 use Rattle.rows.specs.Given.{next_by}
-use Rattle.rows.proofs.Judged.{every_no, every_yes, every-end}
 use Rattle.rows.proofs.has_node.Goals as goal
 
-pub loop-i-init : goal.loop-i-init
-loop-i-init c = (omega arith, refl)
-
-pub branch_of-b-requires : goal.branch_of-b-requires
-branch_of-b-requires c = let p = c.requires in record { ready = p.ready; indexed = p.indexed; n_in_bounds = (p.n_in_bounds, omega (arith, c.branch_count-count.ensures)) }
-
-pub has_next-requires : goal.has_next-requires
-has_next-requires c = let p = c.requires in let a = c.args in let l = c.loop-i in
-    record { ready = p.ready; b_in_bounds = omega (arith, c.branch_of-b.ensures, branch-small (held a.t.now) a.n l.i (omega (arith, c.branch_count-count.ensures))); indexed = p.indexed }
-
-pub returns-then-not-has_next : goal.returns-then-not-has_next
+pub all-requires-clause-callable : goal.all-requires-clause-callable
 unfolding branch_count branch_number
-returns-then-not-has_next c = let a = c.args in let l = c.loop-i in let T = next_by (people a.t.now) (held a.t.now) a.ranks.now in
-    sym (every_no T (branch_numbers (held a.t.now) a.n) l.i (omega (arith, c.branch_count-count.ensures)) (ap T (sym c.branch_of-b.ensures) ∙ sym c.has_next.ensures ∙ c.if-not-has_next.true)) ∙ l.invariant.1
-
-pub loop-i-preserved : goal.loop-i-preserved
-unfolding branch_count branch_number
-loop-i-preserved c = let a = c.args in let l = c.loop-i in let T = next_by (people a.t.now) (held a.t.now) a.ranks.now in
-    (omega arith, sym (every_yes T (branch_numbers (held a.t.now) a.n) l.i (omega (arith, c.branch_count-count.ensures)) (ap T (sym c.branch_of-b.ensures) ∙ sym c.has_next.ensures ∙ c.if-not-has_next.false)) ∙ l.invariant.1)
+all-requires-clause-callable c = let a = c.args in let bs = c.branches_of.result.now in let q = c.branches_of.ensures in
+    serves_from_places (YieldsList-from_slice bs cc) (λ x q k. search (rules, tests)) (λ x j h e.
+    let s = branch-small (held a.index.table.cells.now) a.n j (omega (arith, ap length q)) in
+    let l : x.now < length (held a.index.table.cells.now).branches = omega (arith, e, get_or_default_zero bs j x.now h, ap (λ bs. get_or bs j 0) q, s) in search rules)
 
 pub returns : goal.returns
-unfolding branch_count
-returns c = let a = c.args in let l = c.loop-i in let T = next_by (people a.t.now) (held a.t.now) a.ranks.now in
-    sym (every-end T (branch_numbers (held a.t.now) a.n) l.i (omega (arith, c.branch_count-count.ensures))) ∙ l.invariant.1
+returns c = let t = c.args.index.table.cells.now in let T = next_by (people t) (held t) c.args.ranks.now in let bs = c.branches_of.result.now in
+    all_from_yields_List T _ _ _ c.all.ensures.ran (YieldsList-from_slice bs cc) (λ x b q k. search (rules, tests)) ∙ all-every T bs ∙ ap (every T) c.branches_of.ensures

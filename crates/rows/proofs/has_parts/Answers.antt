@@ -1,36 +1,28 @@
 use native.Mathlib.Omega.{arith}
-use mathlib.Core.Path.{refl, sym, ap, ◌∙◌}
-use lib.ListN.{get_or}
+use Prim.Native.Nat.{◌<◌}
+use mathlib.Core.Path.{ap, ◌∙◌}
+use lib.ListN.{length, get_or}
+use Rattle.std.proofs.Common.{rules, tests}
+use Rattle.std.proofs.lemmas.Grind.{get_or_default_zero}
+use Rattle.std.proofs.lemmas.Iterator.{YieldsList-from_slice}
+use Rattle.std.proofs.lemmas.Iterator.Adapters.{serves_from_places}
+use Rattle.std.proofs.lemmas.Iterator.Search.{all_from_yields_List}
+use Rattle.bitml.specs.Lists.{every}
 use Rattle.tables.specs.Entries.{held}
-use Rattle.tables.specs.SheetOf.{part_numbers, part_number, part_count}
+use Rattle.tables.specs.SheetOf.{part_number, part_count}
 use Rattle.tables.proofs.SheetOf.{part_small}
+use Rattle.sheets.proofs.Chains.{all-every}
 use Rattle.order.specs.Nodes.{has_by}
-use Rattle.rows.proofs.Judged.{every_no, every_yes, every-end, has_no, has_yes}
 use Rattle.rows.proofs.has_parts.Goals as goal
 
-pub loop-i-init : goal.loop-i-init
-loop-i-init c = (omega arith, refl)
-
-pub part_of-m-requires : goal.part_of-m-requires
-part_of-m-requires c = let p = c.requires in record { ready = p.ready; indexed = p.indexed; b_in_bounds = (p.b_in_bounds, omega (arith, c.part_count-count.ensures)) }
-
-pub offset_bounds-ranks-m : goal.offset_bounds-ranks-m
-offset_bounds-ranks-m c = let a = c.args in let l = c.loop-i in omega (arith, c.part_of-m.ensures, c.requires.ready.promises.limits.nodes, part_small (held a.t.now) a.b l.i (omega (arith, c.part_count-count.ensures)))
-
-pub bounds-ranks-m : goal.bounds-ranks-m
-bounds-ranks-m c = let a = c.args in let l = c.loop-i in omega (arith, c.part_of-m.ensures, c.requires.ready.promises.limits.nodes, part_small (held a.t.now) a.b l.i (omega (arith, c.part_count-count.ensures)))
-
-pub returns-then-ranks-m-eq0 : goal.returns-then-ranks-m-eq0
+pub all-requires-clause-callable : goal.all-requires-clause-callable
 unfolding part_count part_number
-returns-then-ranks-m-eq0 c = let a = c.args in let l = c.loop-i in let e = ap (λ m. get_or a.ranks.now m 0) c.part_of-m.ensures in
-    sym (every_no (has_by a.ranks.now) (part_numbers (held a.t.now) a.b) l.i (omega (arith, c.part_count-count.ensures)) (has_no a.ranks.now _ (sym e ∙ c.if-ranks-m-eq0.true))) ∙ l.invariant.1
-
-pub loop-i-preserved : goal.loop-i-preserved
-unfolding part_count part_number
-loop-i-preserved c = let a = c.args in let l = c.loop-i in let e = ap (λ m. get_or a.ranks.now m 0) c.part_of-m.ensures in
-    (omega arith, sym (every_yes (has_by a.ranks.now) (part_numbers (held a.t.now) a.b) l.i (omega (arith, c.part_count-count.ensures)) (has_yes a.ranks.now _ (λ z. c.if-ranks-m-eq0.false (e ∙ z)))) ∙ l.invariant.1)
+all-requires-clause-callable c = let a = c.args in let ms = c.parts_of.result.now in let q = c.parts_of.ensures in
+    serves_from_places (YieldsList-from_slice ms cc) (λ x q k. search (rules, tests)) (λ x j h e.
+    let s = part_small (held a.index.table.cells.now) a.b j (omega (arith, ap length q)) in
+    let l : x.now < 512 = omega (arith, e, get_or_default_zero ms j x.now h, ap (λ ms. get_or ms j 0) q, s, a.index.table.ready.promises.limits.nodes) in search rules)
 
 pub returns : goal.returns
-unfolding part_count
-returns c = let a = c.args in let l = c.loop-i in
-    sym (every-end (has_by a.ranks.now) (part_numbers (held a.t.now) a.b) l.i (omega (arith, c.part_count-count.ensures))) ∙ l.invariant.1
+unfolding has_by
+returns c = let T = has_by c.args.ranks.now in let ms = c.parts_of.result.now in
+    all_from_yields_List T _ _ _ c.all.ensures.ran (YieldsList-from_slice ms cc) (λ x b q k. search (rules, tests)) ∙ all-every T ms ∙ ap (every T) c.parts_of.ensures

@@ -1,28 +1,17 @@
-use mathlib.Core.Path.{sym, ◌∙◌}
-use native.Mathlib.Omega.{arith}
-use Rattle.bitml.proofs.Lists.{and_true, and_false}
+use Rattle.std.proofs.Common.{◌≡◌, ◌∙◌, sym, true, arith}
+use Rattle.std.proofs.lemmas.Grind.{common_steps}
+use Rattle.bitml.specs.Lists.{◌&◌}
 use Rattle.saving.proofs.Comparing.{header_no, cells-inside, sections_same}
-use borrow.Author.Rules.{rules}
 use Rattle.saving.proofs.same_sheet.Goals as goal
 
-pub returns-then-not-same_cells : goal.returns-then-not-same_cells
-returns-then-not-same_cells c = sym (header_no _ _ (sym c.same_cells.ensures ∙ c.if-not-same_cells.true))
+pub same_cells-requires-then-same_cells-5 : goal.same_cells-requires-then-same_cells-5
+same_cells-requires-then-same_cells-5 c = let h : c.same_cells.result ≡ true = grind (arith, common_steps) in
+    (omega (arith, cells-inside _ _ (sym c.same_cells.ensures ∙ h) c.requires.u_in_bounds), omega arith)
 
-pub returns-then-not-same_cells-2 : goal.returns-then-not-same_cells-2
-returns-then-not-same_cells-2 c = sym (sections_same _ _ (sym c.same_cells.ensures ∙ c.if-not-same_cells.false) ∙ and_false _ _ (sym c.same_cells-2.ensures ∙ c.if-not-same_cells-2.true))
+pub returns-then-same_cells-5 : goal.returns-then-same_cells-5
+unfolding ◌&◌
+returns-then-same_cells-5 c = grind (arith, common_steps, sections_same c.args.u.now c.args.t.now, header_no c.args.u.now c.args.t.now)
 
-pub returns-then-not-same_cells-3 : goal.returns-then-not-same_cells-3
-returns-then-not-same_cells-3 c = sym (sections_same _ _ (sym c.same_cells.ensures ∙ c.if-not-same_cells.false) ∙ and_true _ _ (sym c.same_cells-2.ensures ∙ c.if-not-same_cells-2.false) ∙ and_false _ _ (sym c.same_cells-3.ensures ∙ c.if-not-same_cells-3.true))
-
-pub returns-then-not-same_cells-4 : goal.returns-then-not-same_cells-4
-returns-then-not-same_cells-4 c = sym (sections_same _ _ (sym c.same_cells.ensures ∙ c.if-not-same_cells.false) ∙ and_true _ _ (sym c.same_cells-2.ensures ∙ c.if-not-same_cells-2.false) ∙ and_true _ _ (sym c.same_cells-3.ensures ∙ c.if-not-same_cells-3.false) ∙ and_false _ _ (sym c.same_cells-4.ensures ∙ c.if-not-same_cells-4.true))
-
-pub returns-then-not-same_cells-5 : goal.returns-then-not-same_cells-5
-returns-then-not-same_cells-5 c = sym (sections_same _ _ (sym c.same_cells.ensures ∙ c.if-not-same_cells.false) ∙ and_true _ _ (sym c.same_cells-2.ensures ∙ c.if-not-same_cells-2.false) ∙ and_true _ _ (sym c.same_cells-3.ensures ∙ c.if-not-same_cells-3.false) ∙ and_true _ _ (sym c.same_cells-4.ensures ∙ c.if-not-same_cells-4.false) ∙ and_false _ _ (sym c.same_cells-5.ensures ∙ c.if-not-same_cells-5.true))
-
-pub same_cells-requires-6 : goal.same_cells-requires-6
-same_cells-requires-6 c = let h = sym c.same_cells.ensures ∙ c.if-not-same_cells.false in
-    (omega (arith, cells-inside _ _ h c.requires.u_in_bounds), search rules)
-
-pub returns : goal.returns
-returns c = c.same_cells-6.ensures ∙ sym (sections_same _ _ (sym c.same_cells.ensures ∙ c.if-not-same_cells.false) ∙ and_true _ _ (sym c.same_cells-2.ensures ∙ c.if-not-same_cells-2.false) ∙ and_true _ _ (sym c.same_cells-3.ensures ∙ c.if-not-same_cells-3.false) ∙ and_true _ _ (sym c.same_cells-4.ensures ∙ c.if-not-same_cells-4.false) ∙ and_true _ _ (sym c.same_cells-5.ensures ∙ c.if-not-same_cells-5.false))
+pub returns-else-same_cells-5 : goal.returns-else-same_cells-5
+unfolding ◌&◌
+returns-else-same_cells-5 c = grind (arith, common_steps, sections_same c.args.u.now c.args.t.now, header_no c.args.u.now c.args.t.now)

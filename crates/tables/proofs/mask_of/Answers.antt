@@ -1,9 +1,8 @@
 use Prim.Native.Nat.{ℕ, ◌^◌, ◌<◌}
-use mathlib.Core.Path.{◌≡◌, sym, subst}
+use mathlib.Core.Path.{◌≡◌}
 use mathlib.Core.List.{map}
 use native.Mathlib.Omega.{arith}
 use lib.ListN.{get_or}
-use lib.Pow.{pow-lt}
 use borrow.Author.Rules.{rules}
 use Rattle.bitml.specs.Lists.{below}
 use Rattle.bitml.proofs.Lists.{get_d_up}
@@ -15,6 +14,3 @@ rule p h = get_d_up (λ p. 2 ^ p) 0 0 16 p p (omega arith) h
 
 pub returns : goal.returns
 returns c = rule c.args.p (search rules)
-
-pub overflow_cast-result : goal.overflow_cast-result
-overflow_cast-result c = record { fits = subst (λ n. n < 2 ^ 64) (sym (rule c.args.p (search rules))) (pow-lt {i = c.args.p} {j = 64} (omega arith)) }

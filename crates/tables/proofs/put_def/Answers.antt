@@ -2,15 +2,7 @@ use Rattle.tables.proofs.Runs.{run_3}
 use Rattle.tables.proofs.Laws.{put-def}
 use Rattle.tables.specs.Entries.{def_cells}
 use mathlib.Core.Path.{refl}
-use lib.ListN.{length-set}
-use native.Mathlib.Omega.{arith}
 use Rattle.tables.proofs.put_def.Goals as goal
-
-pub bounds-t-i-2 : goal.bounds-t-i-2
-bounds-t-i-2 c = simp length-set (omega arith)
-
-pub bounds-t-i-3 : goal.bounds-t-i-3
-bounds-t-i-3 c = simp length-set (omega arith)
 
 pub returns : goal.returns
 unfolding def_cells

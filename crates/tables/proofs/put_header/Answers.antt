@@ -1,22 +1,5 @@
-use native.Mathlib.Omega.{arith}
-use lib.ListN.{length-set}
 use Rattle.tables.proofs.Laws.{put_header}
 use Rattle.tables.proofs.put_header.Goals as goal
-
-pub bounds-t-1 : goal.bounds-t-1
-bounds-t-1 c = simp length-set (omega arith)
-
-pub bounds-t-2 : goal.bounds-t-2
-bounds-t-2 c = simp length-set (omega arith)
-
-pub bounds-t-3 : goal.bounds-t-3
-bounds-t-3 c = simp length-set (omega arith)
-
-pub bounds-t-4 : goal.bounds-t-4
-bounds-t-4 c = simp length-set (omega arith)
-
-pub bounds-t-5 : goal.bounds-t-5
-bounds-t-5 c = simp length-set (omega arith)
 
 pub returns : goal.returns
 returns c = put_header _ _ _ c.requires

@@ -2,18 +2,7 @@ use Rattle.tables.proofs.Runs.{run_4}
 use Rattle.tables.proofs.Laws.{put-node}
 use Rattle.tables.specs.Entries.{node_cells}
 use mathlib.Core.Path.{refl}
-use lib.ListN.{length-set}
-use native.Mathlib.Omega.{arith}
 use Rattle.tables.proofs.put_node.Goals as goal
-
-pub bounds-t-i-2 : goal.bounds-t-i-2
-bounds-t-i-2 c = simp length-set (omega arith)
-
-pub bounds-t-i-3 : goal.bounds-t-i-3
-bounds-t-i-3 c = simp length-set (omega arith)
-
-pub bounds-t-i-4 : goal.bounds-t-i-4
-bounds-t-i-4 c = simp length-set (omega arith)
 
 pub returns : goal.returns
 unfolding node_cells

@@ -1,9 +1,8 @@
 use Rattle.truth.proofs.Laws.{counts-told, counts-not}
-use mathlib.Core.Path.{refl}
 use Rattle.truth.proofs.counts_always.Goals as goal
 
-pub returns-then-slate-eq0 : goal.returns-then-slate-eq0
-returns-then-slate-eq0 c = counts-told refl c.evaluate.ensures c.if-slate-eq0.true
+pub returns-then-not-slate : goal.returns-then-not-slate
+returns-then-not-slate c = counts-told c.evaluate-slate.ensures c.if-not-slate.true
 
-pub returns : goal.returns
-returns c = counts-not refl c.evaluate.ensures c.if-slate-eq0.false
+pub returns-else-not-slate : goal.returns-else-not-slate
+returns-else-not-slate c = counts-not c.evaluate-slate.ensures c.if-not-slate.false

@@ -1,16 +1,10 @@
-use Rattle.truth.proofs.Laws.{lent-cells, lent_left, lent_head, lent-truth, holds-always}
 use mathlib.Core.Path.{refl}
+use Rattle.tables.specs.Entries.{held}
+use Rattle.truth.proofs.Laws.{truth_from, truth-always}
 use Rattle.truth.proofs.evaluate.Goals as goal
 
-pub returns-then-peek-eq-T : goal.returns-then-peek-eq-T
-returns-then-peek-eq-T c = let r = c.requires.ready in
-    let e = c.cell_total-total.ensures in
-    let h = c.requires.c_in_bounds.0 in
-    lent-truth r e h (holds-always _ _ (lent_left r e h) (lent_head r e h c.peek.ensures) refl c.requires.c_in_bounds.1 c.if-peek-eq-T.true)
+pub returns-then-cells-c-ne-T : goal.returns-then-cells-c-ne-T
+returns-then-cells-c-ne-T c = truth_from (held c.args.table.cells.now) refl c.requires.c_in_bounds (rw c.conditions-cells.ensures at c.condition.ensures)
 
-pub condition-requires : goal.condition-requires
-condition-requires c = let e = c.cell_total-total.ensures in
-    record { cells = lent-cells c.requires.ready e; values = c.requires.values; left_in_bounds = (lent_left c.requires.ready e c.requires.c_in_bounds.0, c.requires.c_in_bounds.1) }
-
-pub returns : goal.returns
-returns c = lent-truth c.requires.ready c.cell_total-total.ensures c.requires.c_in_bounds.0 c.condition.ensures
+pub returns-else-cells-c-ne-T : goal.returns-else-cells-c-ne-T
+returns-else-cells-c-ne-T c = truth-always (held c.args.table.cells.now) _ _ c.requires.c_in_bounds (rw c.conditions-cells.ensures at c.if-cells-c-ne-T.false)

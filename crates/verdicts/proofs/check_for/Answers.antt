@@ -13,22 +13,33 @@ use Rattle.exits.proofs.Told.{root-first}
 use Rattle.verdicts.proofs.Verdicts.{check-liquid, check-refused, place-few}
 use Rattle.verdicts.proofs.check_for.Goals as goal
 
--- src/lib.rt:68:30
-pub overflow_add-defs-in-Refused : goal.overflow_add-defs-in-Refused
-overflow_add-defs-in-Refused c = let R = rows_of c.args.n c.args.rows.now in
-    let k = place-few (sheet_in c.args.t.now) c.args.p R _ _ (sym c.in-Refused.is ∙ c.check_rows-v.ensures.value) in
-    (omega (arith, k, rows-length c.args.n c.args.rows.now, c.requires.rows_fit.few, c.requires.ready.promises.limits.defs, c.def_total-defs.ensures))
+pub overflow_add-def_total-in-Err : goal.overflow_add-def_total-in-Err
+overflow_add-def_total-in-Err c =
+    let a = c.args in
+    let t = c.index-index.result.table.cells.now in
+    let k = place-few (sheet_in t) a.p (rows_of a.n a.rows.now) _ _ c.in-Err.ensures.value in
+    (omega (arith, k, rows-length a.n a.rows.now, c.requires.rows_fit.few, a.table.ready.promises.limits.defs, c.def_total.ensures))
 
--- src/lib.rt:51:1
-pub returns-in-Liquid : goal.returns-in-Liquid
+pub returns-in-Ok : goal.returns-in-Ok
 unfolding answer
-returns-in-Liquid c = let R = rows_of c.args.n c.args.rows.now in let S = sheet_in c.args.t.now in
-    gives_as c.answered.ensures
-    (check-liquid S c.args.p (root-first c.args.t.now c.requires.ready) (length c.args.rows.now) (length c.args.text.now) _ _ c.clear.ensures R (check S c.args.p R) _ _ _ _ (sym c.in-Liquid.is ∙ c.check_rows-v.ensures.value) c.check_rows-v.ensures.rows_after c.put_liquid-f.ensures)
+returns-in-Ok c =
+    let a = c.args in
+    let t = c.index-index.result.table in
+    let R = rows_of a.n a.rows.now in
+    let s = sheet_in t.cells.now in
+    let v = c.in-Ok.ensures in
+    rw (← c.index-index.ensures)
+    (gives_as c.answered.ensures
+    (check-liquid s a.p (root-first t.cells.now t.ready) (length a.rows.now) (length a.text.now) _ _ c.clear.ensures R (check s a.p R) _ _ _ _ v.value v.rows_after c.put_liquid.ensures))
 
--- src/lib.rt:51:1
-pub returns-in-Refused : goal.returns-in-Refused
+pub returns-in-Err : goal.returns-in-Err
 unfolding answer
-returns-in-Refused c = let R = rows_of c.args.n c.args.rows.now in let S = sheet_in c.args.t.now in
-    gives_as c.declined.ensures
-    (check-refused S c.args.p (root-first c.args.t.now c.requires.ready) (length c.args.rows.now) (length c.args.text.now) _ _ c.clear.ensures R (check S c.args.p R) _ _ _ (sym c.in-Refused.is ∙ c.check_rows-v.ensures.value) c.check_rows-v.ensures.rows_after (c.def_total-defs.ensures ∙ sym (defs-are (people c.args.t.now) (held c.args.t.now))))
+returns-in-Err c =
+    let a = c.args in
+    let t = c.index-index.result.table in
+    let R = rows_of a.n a.rows.now in
+    let s = sheet_in t.cells.now in
+    let v = c.in-Err.ensures in
+    rw (← c.index-index.ensures)
+    (gives_as c.declined.ensures
+    (check-refused s a.p (root-first t.cells.now t.ready) (length a.rows.now) (length a.text.now) _ _ c.clear.ensures R (check s a.p R) _ _ _ (rw c.number.ensures v.value) v.rows_after (rw c.index-index.ensures (c.def_total.ensures ∙ sym (defs-are (people a.table.cells.now) (held a.table.cells.now))))))

@@ -1,44 +1,55 @@
 use native.Mathlib.Omega.{arith}
 use Prim.Native.Nat.{◌<◌}
 use mathlib.Core.Path.{◌≡◌, refl, ◌∙◌, subst}
+use lib.ListN.{get_or}
+use lib.Seq.{get_or-set_same}
+use Rattle.std.proofs.Common.{rules}
 use Rattle.tables.specs.Entries.{held, people}
 use Rattle.bitml.proofs.Shortest.{near-there}
-use Rattle.ways.specs.Marks.{LedUpTo}
-use Rattle.ways.proofs.Queue.{tail_le}
+use Rattle.ways.specs.Marks.{Searched, Close, Led, LedUpTo}
+use Rattle.ways.proofs.Queue.{visited}
 use Rattle.ways.proofs.Leading.{marked-none, close_none, first-mark, close_first, led_first, led_next, close_next, all-exact}
 use Rattle.ways.proofs.distances.Goals as goal
 
-pub visit-end-requires : goal.visit-end-requires
-visit-end-requires c = let p = c.requires in
-    record { ready = p.ready; marked = (marked-none _ _ _ _ _ p.dist_len.0 refl p.dist_len.1, close_none _ p.dist_len.1); n_in_bounds = (p.target_in_bounds, omega arith, near-there _ _) }
+pub returns : goal.returns
+returns c =
+    let t = c.args.table in
+    let l = c.loop-head in
+    let s = l.search in
+    let e : l.head ≡ s.len = omega arith in
+    let d = all-exact (people t.cells.now) (held t.cells.now) t.ready.promises c.args.target s.marks.now s.queue s.len l.invariant.2 (subst (LedUpTo (held t.cells.now) s.marks.now s.queue) e l.invariant.5) l.invariant.4 in
+    let q = l.invariant.0 ∙ c.visit.ensures.same ∙ c.new-search.ensures.same in
+    search rules
 
 pub loop-head-init : goal.loop-head-init
-loop-head-init c = let v = c.visit-end.ensures in (omega arith, v.marked_2.0, first-mark _ _ v.marked_2.1 v.nonzero, led_first _ _ _, λ h. close_first _ _ v.marked_2.1)
-
-pub offset_bounds-queue-head : goal.offset_bounds-queue-head
-offset_bounds-queue-head c = omega (arith, tail_le c.loop-head.invariant.1)
-
-pub bounds-queue-head : goal.bounds-queue-head
-bounds-queue-head c = omega (arith, tail_le c.loop-head.invariant.1)
-
-pub visit_before-end-requires : goal.visit_before-end-requires
-visit_before-end-requires c = let p = c.requires in let l = c.loop-head in
-    let h : l.head < l.end = omega arith in
-    record { ready = p.ready; marked = (l.invariant.1, l.invariant.4 h); nonzero = (l.invariant.1.marked l.head h, c.index_namers.ensures) }
-
-pub overflow_add-head : goal.overflow_add-head
-overflow_add-head c = omega (arith, tail_le c.loop-head.invariant.1)
-
-pub loop-head-smaller : goal.loop-head-smaller
-loop-head-smaller c = omega (arith, tail_le c.loop-head.invariant.1)
+loop-head-init c =
+    let t = c.args.table in
+    let x = t.ready.promises in
+    let p = c.requires in
+    let n = c.new-search.ensures in
+    let mk : Searched t.cells.now c.args.target c.new-search.result = rw (n.marks, n.queue, n.len) (marked-none _ _ _ _ _ p.dist_len.0 refl p.dist_len.1) in
+    let cl : Close c.new-search.result.marks.now 0 = rw n.marks (close_none _ p.dist_len.1) in
+    let a = c.visit.ensures in
+    let v = visited x mk p.target_in_bounds 0 refl (omega arith) cl (near-there _ _) a.marks a.queue a.len in
+    let z : get_or c.new-search.result.marks.now c.args.target 0 ≡ 0 = rw n.marks (p.dist_len.1 c.args.target) in
+    (refl, omega arith, v.0.0, rw (a.queue, z, n.len) (get_or-set_same c.new-search.result.queue 0 c.args.target 0 (omega (arith, mk.wide))), first-mark _ _ v.0.1 v.2, led_first _ _ _, λ h. close_first _ _ v.0.1)
 
 pub loop-head-preserved : goal.loop-head-preserved
-loop-head-preserved c = let l = c.loop-head in let v = c.visit_before-end.ensures in
-    let h : l.head < l.end = omega arith in
-    let g = v.grew.marks c.args.target (omega (arith, l.invariant.2)) in
-    (omega (arith, v.grew.more), v.marked_2.0, g ∙ l.invariant.2, led_next _ l.head l.invariant.1 v.grew h l.invariant.3 v.led, close_next _ l.head l.invariant.1 v.marked_2.0 v.grew h v.marked_2.1)
-
-pub returns : goal.returns
-returns c = let a = c.args in let p = c.requires in let l = c.loop-head in
-    let e : l.head ≡ l.end = omega arith in
-    all-exact (people a.t.now) (held a.t.now) p.ready.promises a.target l.dist l.queue l.end l.invariant.1 (subst (LedUpTo (held a.t.now) l.dist l.queue) e l.invariant.3) l.invariant.2
+loop-head-preserved c =
+    let t = c.args.table.cells.now in
+    let l = c.loop-head in
+    let i = l.invariant in
+    let s = c.visit_before.new.search in
+    let v = c.visit_before.ensures in
+    let h : l.head < l.search.len = omega arith in
+    let e = c.namers-namers.ensures in
+    let mk : Searched t c.args.target s = subst (λ g. Searched t g s) i.3 (subst (λ t. Searched t (get_or l.search.queue 0 0) s) e v.searched_2.0) in
+    let g = v.further.marks c.args.target (omega (arith, i.4)) in (
+      v.same ∙ i.0,
+      omega (arith, v.further.more),
+      mk,
+      v.further.places 0 (omega arith) ∙ i.3,
+      g ∙ i.4,
+      led_next _ l.head i.2 v.further h i.5 (subst (λ t. Led (held t) s.marks.now (get_or l.search.queue l.head 0)) e v.led),
+      close_next _ l.head i.2 mk v.further h v.searched_2.1,
+    )

@@ -1,11 +1,8 @@
-use Prim.Native.Nat.{◌+◌, ◌-◌, ℕ, ◌*◌}
+use Prim.Native.Nat.{◌+◌, ◌-◌, ◌*◌}
+use Rattle.std.specs.Prelude.{Some}
 use Rattle.writing.specs.Written.{repeat, branch_text, contract_text, part_text}
-use Rattle.writer.specs.Putting.{due, Room, Puts}
-use Rattle.writer.specs.declared.Put.{Put}
+use Rattle.writer.specs.Putting.{due, Puts}
 use Rattle.tables.specs.Entries.{held}
-use lib.ListN.{length}
-use mathlib.Core.List.{List}
-use mathlib.Core.Path.{◌≡◌}
 use Rattle.writer.proofs.+put_branch_put_contract_put_reveal_put_split.Given as goal
 
 abbrev pub decreases-put_split : goal.decreases-put_split
@@ -20,14 +17,8 @@ decreases-put_contract l = 3 * l.depth
 abbrev pub decreases-put_branch : goal.decreases-put_branch
 decreases-put_branch l = 3 * l.depth + 2
 
-abbrev pub invariant-put_contract-loop-left : goal.invariant-put_contract-loop-left
-invariant-put_contract-loop-left l = ((r : Put) (v : List ℕ) → Puts l.out l.cur.at (repeat l.left (branch_text (held l.t) (contract_text (held l.t) (l.depth - 1))) (due l.cur)) r v → Puts l.initial.out l.initial.cur.at (repeat l.initial.left (branch_text (held l.t) (contract_text (held l.t) (l.depth - 1))) (due l.initial.cur)) r v) × Room l.out l.cur × (length l.out ≡ length l.initial.out)
+abbrev pub invariant-put_contract-loop : goal.invariant-put_contract-loop
+invariant-put_contract-loop l = Puts l.initial.out l.initial.cur.at (repeat l.counter (branch_text (held l.entries.cells.now) (contract_text (held l.entries.cells.now) (l.depth - 1))) (due l.initial.cur)) (Some l.cur) l.out
 
-abbrev pub decreases-put_contract-loop-left : goal.decreases-put_contract-loop-left
-decreases-put_contract-loop-left l = l.left
-
-abbrev pub invariant-put_split-loop-left : goal.invariant-put_split-loop-left
-invariant-put_split-loop-left l = ((r : Put) (v : List ℕ) → Puts l.out l.cur.at (repeat l.left (part_text (held l.t) (contract_text (held l.t) l.depth)) (due l.cur)) r v → Puts l.initial.out l.initial.cur.at (repeat l.initial.left (part_text (held l.t) (contract_text (held l.t) l.depth)) (due l.initial.cur)) r v) × Room l.out l.cur × (length l.out ≡ length l.initial.out)
-
-abbrev pub decreases-put_split-loop-left : goal.decreases-put_split-loop-left
-decreases-put_split-loop-left l = l.left
+abbrev pub invariant-put_split-loop : goal.invariant-put_split-loop
+invariant-put_split-loop l = Puts l.initial.out l.initial.cur.at (repeat l.counter (part_text (held l.entries.cells.now) (contract_text (held l.entries.cells.now) l.depth)) (due l.initial.cur)) (Some l.cur) l.out

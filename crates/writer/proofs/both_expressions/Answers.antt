@@ -1,14 +1,12 @@
 use Rattle.writer.proofs.Putting.{on_then, full_then, room-on}
+use native.Mathlib.Omega.{arith}
 use Rattle.writer.proofs.both_expressions.Goals as goal
 
-pub put_expression-g-requires : goal.put_expression-g-requires
-put_expression-g-requires c = record { whole = c.requires.whole; room = c.requires.room }
+pub returns-in_err-q : goal.returns-in_err-q
+returns-in_err-q c = full_then _ _ _ c.in_err-q.ensures c.from_residual.ensures
 
-pub returns-in_default : goal.returns-in_default
-returns-in_default c = full_then _ _ _ c.put_expression-g.ensures c.in_default.is
-
-pub put_expression-requires : goal.put_expression-requires
-put_expression-requires c = record { whole = c.requires.whole; room = room-on _ c.requires.room.long c.put_expression-g.ensures c.in-On.is }
+pub put_expression-requires-2 : goal.put_expression-requires-2
+put_expression-requires-2 c = record { room = room-on (omega arith) c.in_ok-q.ensures }
 
 pub returns : goal.returns
-returns c = on_then _ _ _ _ c.put_expression-g.ensures c.in-On.is c.put_expression.ensures
+returns c = on_then _ _ _ c.in_ok-q.ensures c.put_expression-2.ensures

@@ -1,67 +1,42 @@
-use Rattle.writer.proofs.Putting.{on_then, full_then, room-on, long-on}
-use Rattle.writer.proofs.Rules.{def_by}
-use Rattle.writer.proofs.Keeping.{owned_used}
 use Prim.Native.Nat.{◌≤◌}
-use mathlib.Core.Path.{refl, ◌∙◌}
 use native.Mathlib.Omega.{arith}
+use Rattle.writer.proofs.Keeping.{owned_used}
+use Rattle.writer.proofs.Putting.{on_then, full_then, small, room-on}
+use Rattle.writer.proofs.Rules.{def_by}
 use Rattle.writer.proofs.put_def.Goals as goal
 
-pub secrets_of-secrets-requires : goal.secrets_of-secrets-requires
-secrets_of-secrets-requires c = c.requires.whole
+pub returns-in_err-q : goal.returns-in_err-q
+returns-in_err-q c = def_by _ _ _ _ c.secrets_of-secrets.ensures (full_then _ _ _ c.in_err-q.ensures c.from_residual.ensures)
 
-pub put_letters-g-requires : goal.put_letters-g-requires
-put_letters-g-requires c = record { room = c.requires.room; word_len_bound = omega arith }
+pub returns-in_err-l : goal.returns-in_err-l
+returns-in_err-l c = def_by _ _ _ _ c.secrets_of-secrets.ensures (on_then _ _ _ c.in_ok-q.ensures (full_then _ _ _ c.in_err-l.ensures c.from_residual-in_err-l.ensures))
 
-pub shape_of-out-in_default : goal.shape_of-out-in_default
-shape_of-out-in_default c = long-on _ c.put_letters-g.ensures
+pub returns-in_err-e : goal.returns-in_err-e
+returns-in_err-e c = def_by _ _ _ _ c.secrets_of-secrets.ensures (on_then _ _ _ c.in_ok-q.ensures (on_then _ _ _ c.in_ok-l.ensures (full_then _ _ _ c.in_err-e.ensures c.from_residual-in_err-e.ensures)))
 
-pub returns-in_default : goal.returns-in_default
-returns-in_default c = def_by _ _ _ _ c.secrets_of-secrets.ensures (full_then _ _ _ c.put_letters-g.ensures c.in_default.is)
+pub returns-in_err-f : goal.returns-in_err-f
+returns-in_err-f c = def_by _ _ _ _ c.secrets_of-secrets.ensures (on_then _ _ _ c.in_ok-q.ensures (on_then _ _ _ c.in_ok-l.ensures (on_then _ _ _ c.in_ok-e.ensures (full_then _ _ _ c.in_err-f.ensures c.from_residual-in_err-f.ensures))))
 
-pub put_all_listed-h-requires : goal.put_all_listed-h-requires
-put_all_listed-h-requires c = record { whole = c.requires.whole; room = room-on _ c.requires.room.long c.put_letters-g.ensures c.in-On.is }
-
-pub shape_of-out-in_default-h : goal.shape_of-out-in_default-h
-shape_of-out-in_default-h c = long-on _ c.put_all_listed-h.ensures ∙ long-on _ c.put_letters-g.ensures
-
-pub returns-in_default-h : goal.returns-in_default-h
-returns-in_default-h c = def_by _ _ _ _ c.secrets_of-secrets.ensures (on_then _ _ _ _ c.put_letters-g.ensures c.in-On.is (full_then _ _ _ c.put_all_listed-h.ensures c.in_default-h.is))
-
-pub put_field-i-requires : goal.put_field-i-requires
-put_field-i-requires c = room-on _ (omega (arith, c.requires.room.long, long-on _ c.put_letters-g.ensures)) c.put_all_listed-h.ensures c.in-On-h.is
-
-pub shape_of-out-in_default-i : goal.shape_of-out-in_default-i
-shape_of-out-in_default-i c = long-on _ c.put_field-i.ensures ∙ long-on _ c.put_all_listed-h.ensures ∙ long-on _ c.put_letters-g.ensures
-
-pub returns-in_default-i : goal.returns-in_default-i
-returns-in_default-i c = def_by _ _ _ _ c.secrets_of-secrets.ensures (on_then _ _ _ _ c.put_letters-g.ensures c.in-On.is (on_then _ _ _ _ c.put_all_listed-h.ensures c.in-On-h.is (full_then _ _ _ c.put_field-i.ensures c.in_default-i.is)))
-
-pub put_all_listed-o-requires : goal.put_all_listed-o-requires
-put_all_listed-o-requires c = record { whole = c.requires.whole; room = room-on _ (omega (arith, c.requires.room.long, long-on _ c.put_all_listed-h.ensures ∙ long-on _ c.put_letters-g.ensures)) c.put_field-i.ensures c.in-On-i.is }
-
-pub shape_of-out-in_default-o : goal.shape_of-out-in_default-o
-shape_of-out-in_default-o c = long-on _ c.put_all_listed-o.ensures ∙ long-on _ c.put_field-i.ensures ∙ long-on _ c.put_all_listed-h.ensures ∙ long-on _ c.put_letters-g.ensures
-
-pub returns-in_default-o : goal.returns-in_default-o
-returns-in_default-o c = def_by _ _ _ _ c.secrets_of-secrets.ensures (on_then _ _ _ _ c.put_letters-g.ensures c.in-On.is (on_then _ _ _ _ c.put_all_listed-h.ensures c.in-On-h.is (on_then _ _ _ _ c.put_field-i.ensures c.in-On-i.is (full_then _ _ _ c.put_all_listed-o.ensures c.in_default-o.is))))
-
-pub def_done-requires : goal.def_done-requires
-def_done-requires c = let s = (c.put_all_listed-o.ensures.on _ c.in-On-o.is).small in omega (arith, s.short, s.defs)
-
-pub put_contract-c-requires : goal.put_contract-c-requires
-put_contract-c-requires c = record { whole = c.requires.whole; room = room-on _ (omega (arith, c.requires.room.long, long-on _ c.put_all_listed-o.ensures ∙ long-on _ c.put_field-i.ensures ∙ long-on _ c.put_all_listed-h.ensures ∙ long-on _ c.put_letters-g.ensures)) (owned_used _ _ _ _ _ _ _ _ _ _ c.requires.room.small (let e : 1 ≤ 3 = omega arith in e) c.put_letters-g.ensures c.in-On.is c.put_all_listed-h.ensures c.in-On-h.is c.put_field-i.ensures c.in-On-i.is c.put_all_listed-o.ensures c.in-On-o.is c.def_done.ensures) refl }
-
-pub shape_of-out-in_default-c : goal.shape_of-out-in_default-c
-shape_of-out-in_default-c c = long-on _ c.put_contract-c.ensures ∙ long-on _ c.put_all_listed-o.ensures ∙ long-on _ c.put_field-i.ensures ∙ long-on _ c.put_all_listed-h.ensures ∙ long-on _ c.put_letters-g.ensures
-
-pub returns-in_default-c : goal.returns-in_default-c
-returns-in_default-c c = def_by _ _ _ _ c.secrets_of-secrets.ensures (on_then _ _ _ _ c.put_letters-g.ensures c.in-On.is (on_then _ _ _ _ c.put_all_listed-h.ensures c.in-On-h.is (on_then _ _ _ _ c.put_field-i.ensures c.in-On-i.is (on_then _ _ _ _ c.put_all_listed-o.ensures c.in-On-o.is (on_then _ _ _ _ (owned_used _ _ _ _ _ _ _ _ _ _ c.requires.room.small (let e : 1 ≤ 3 = omega arith in e) c.put_letters-g.ensures c.in-On.is c.put_all_listed-h.ensures c.in-On-h.is c.put_field-i.ensures c.in-On-i.is c.put_all_listed-o.ensures c.in-On-o.is c.def_done.ensures) refl (full_then _ _ _ c.put_contract-c.ensures c.in_default-c.is))))))
-
-pub put_letters-requires : goal.put_letters-requires
-put_letters-requires c = record { room = room-on _ (omega (arith, c.requires.room.long, long-on _ c.put_all_listed-o.ensures ∙ long-on _ c.put_field-i.ensures ∙ long-on _ c.put_all_listed-h.ensures ∙ long-on _ c.put_letters-g.ensures)) c.put_contract-c.ensures c.in-On-c.is; word_len_bound = omega arith }
-
-pub shape_of-out : goal.shape_of-out
-shape_of-out c = long-on _ c.put_letters.ensures ∙ long-on _ c.put_contract-c.ensures ∙ long-on _ c.put_all_listed-o.ensures ∙ long-on _ c.put_field-i.ensures ∙ long-on _ c.put_all_listed-h.ensures ∙ long-on _ c.put_letters-g.ensures
+pub returns-in_err-z : goal.returns-in_err-z
+returns-in_err-z c = def_by _ _ _ _ c.secrets_of-secrets.ensures (on_then _ _ _ c.in_ok-q.ensures (on_then _ _ _ c.in_ok-l.ensures (on_then _ _ _ c.in_ok-e.ensures (on_then _ _ _ c.in_ok-f.ensures (on_then _ _ _ (owned_used _ _ c.requires.room.small (let e : 1 ≤ 3 = omega arith in e) c.in_ok-q.ensures _ _ c.in_ok-l.ensures c.in_ok-e.ensures c.in_ok-f.ensures) (full_then _ _ _ c.in_err-z.ensures c.from_residual-in_err-z.ensures))))))
 
 pub returns : goal.returns
-returns c = def_by _ _ _ _ c.secrets_of-secrets.ensures (on_then _ _ _ _ c.put_letters-g.ensures c.in-On.is (on_then _ _ _ _ c.put_all_listed-h.ensures c.in-On-h.is (on_then _ _ _ _ c.put_field-i.ensures c.in-On-i.is (on_then _ _ _ _ c.put_all_listed-o.ensures c.in-On-o.is (on_then _ _ _ _ (owned_used _ _ _ _ _ _ _ _ _ _ c.requires.room.small (let e : 1 ≤ 3 = omega arith in e) c.put_letters-g.ensures c.in-On.is c.put_all_listed-h.ensures c.in-On-h.is c.put_field-i.ensures c.in-On-i.is c.put_all_listed-o.ensures c.in-On-o.is c.def_done.ensures) refl (on_then _ _ _ _ c.put_contract-c.ensures c.in-On-c.is c.put_letters.ensures))))))
+returns c = def_by _ _ _ _ c.secrets_of-secrets.ensures (on_then _ _ _ c.in_ok-q.ensures (on_then _ _ _ c.in_ok-l.ensures (on_then _ _ _ c.in_ok-e.ensures (on_then _ _ _ c.in_ok-f.ensures (on_then _ _ _ (owned_used _ _ c.requires.room.small (let e : 1 ≤ 3 = omega arith in e) c.in_ok-q.ensures _ _ c.in_ok-l.ensures c.in_ok-e.ensures c.in_ok-f.ensures) (on_then _ _ _ c.in_ok-z.ensures c.put_letters-2.ensures))))))
+
+pub put_all_listed-requires : goal.put_all_listed-requires
+put_all_listed-requires c = record { room = room-on (omega arith) c.in_ok-q.ensures }
+
+pub put_field-requires : goal.put_field-requires
+put_field-requires c = room-on (omega arith) c.in_ok-l.ensures
+
+pub put_all_listed-requires-2 : goal.put_all_listed-requires-2
+put_all_listed-requires-2 c = record { room = room-on (omega arith) c.in_ok-e.ensures }
+
+pub overflow_add-f : goal.overflow_add-f
+overflow_add-f c = let s = small c.in_ok-f.ensures in omega (arith, s.short, s.defs)
+
+pub put_contract-requires : goal.put_contract-requires
+put_contract-requires c = record { room = room-on (omega arith) (owned_used _ _ c.requires.room.small (let e : 1 ≤ 3 = omega arith in e) c.in_ok-q.ensures _ _ c.in_ok-l.ensures c.in_ok-e.ensures c.in_ok-f.ensures) }
+
+pub put_letters-requires-2-clause-room : goal.put_letters-requires-2-clause-room
+put_letters-requires-2-clause-room c = room-on (omega arith) c.in_ok-z.ensures

@@ -5,12 +5,9 @@ use Rattle.texts.proofs.Lengths.{decimal-most}
 use native.Mathlib.Omega.{arith}
 use Rattle.writer.proofs.put_field.Goals as goal
 
-pub put_byte-e-requires : goal.put_byte-e-requires
-put_byte-e-requires c = omega (arith, c.requires.long, c.requires.small.short)
-
 pub put_number-f-requires : goal.put_number-f-requires
 put_number-f-requires c = omega (arith, c.requires.long, c.requires.small.short, c.put_byte-e.ensures.end, c.put_byte-e.ensures.long, decimal-most c.args.n)
 
 pub returns : goal.returns
 unfolding field
-returns c = say_puts _ _ _ c.requires.small (wrote_then c.put_byte-e.ensures c.put_number-f.ensures) c.stand.ensures
+returns c = say_puts c.requires.small (wrote_then c.put_byte-e.ensures c.put_number-f.ensures) c.stand.ensures

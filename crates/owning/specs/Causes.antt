@@ -1,4 +1,4 @@
--- The numbers of the causes in document 06, "Telling the drafter why". Assumes nothing.
+-- The numbers of the causes of change request 6/13, "Telling the drafter why". Assumes nothing.
 use Rattle.std.specs.Prelude.{ℕ, Option, None, Some}
 use Rattle.owning.specs.declared.Cause.{Cause}
 use Rattle.owning.specs.declared.Cause.TheVariants.{Signer, Secret, Condition, Renewal, Contract}

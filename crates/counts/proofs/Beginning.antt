@@ -8,7 +8,6 @@ use native.Mathlib.Decide.{dec_le}
 use lib.ListN.{get_or, set, length, replicate, length-set, length-replicate, get_or-eq_default}
 use lib.Seq.{ext_get_or, get_or-set_same, get_or-set_other}
 use lib.Dec.{eqb}
-use Rattle.std.specs.Prelude.{None}
 use Rattle.bitml.specs.Lists.{sum}
 use Rattle.bitml.specs.Sheet.{def_at}
 use Rattle.bitml.specs.Ledger.{Commitment, commit, new_contract, stipulated}
@@ -60,7 +59,7 @@ module _ (t vs : List ℕ) (ok : Ready t) (ev : length vs ≡ (def_entry_at (hel
   total = deposits_of (people t) (held t) 0
 
   abbrev first : Counts
-  first = record { answer = None; time = 0; made = 1; sets = 1; taken = total }
+  first = record { answer = 0; time = 0; made = 1; sets = 1; taken = total }
 
   abbrev O : Book
   O = book first (with_set 0 0 (length vs) (with_contract 0 root total 0 P))
@@ -170,12 +169,12 @@ module _ (t vs : List ℕ) (ok : Ready t) (ev : length vs ≡ (def_entry_at (hel
 -- over what the code read, and from cells that are still zero
 pub begins_by : (t vs : List ℕ) → Ready t → {n : ℕ} → length vs ≡ n → n ≡ (def_entry_at (held t) 0).secrets → {r d : ℕ} → r ≡ (def_entry_at (held t) 0).root → d ≡ deposits_of (people t) (held t) 0
     → {P Q : Pages} → P ≡ with_set 0 0 n (with_contract 0 r d 0 (pages_in (replicate cells_long 0))) → Stores P 0 vs n Q
-    → Begins t vs (book (record { answer = None; time = 0; made = 1; sets = 1; taken = d }) Q)
+    → Begins t vs (book (record { answer = 0; time = 0; made = 1; sets = 1; taken = d }) Q)
 begins_by t vs ok {n} el ev er ed {Q = Q} eP s =
     let Z = pages_in (replicate cells_long 0) in
     let D = deposits_of (people t) (held t) 0 in
     let e = eP ∙ ap₂ (λ r d. with_set 0 0 n (with_contract 0 r d 0 Z)) er ed ∙ ap (λ n. with_set 0 0 n (with_contract 0 (def_entry_at (held t) 0).root D 0 Z)) (sym el) in
     let s' = subst (λ P. Stores P 0 vs (length vs) Q) e (stores_same (sym el) s) in
-    subst (λ d. Begins t vs (book (record { answer = None; time = 0; made = 1; sets = 1; taken = d }) Q)) (sym ed)
-    (subst (λ x. Begins t vs x) (sym (stored-book (record { answer = None; time = 0; made = 1; sets = 1; taken = D }) s'))
+    subst (λ d. Begins t vs (book (record { answer = 0; time = 0; made = 1; sets = 1; taken = d }) Q)) (sym ed)
+    (subst (λ x. Begins t vs x) (sym (stored-book (record { answer = 0; time = 0; made = 1; sets = 1; taken = D }) s'))
     (begins t vs ok (el ∙ ev) Z (page_long (replicate cells_long 0)) blank-at (Q states) (Q values) s'.secrets))

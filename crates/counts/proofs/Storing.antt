@@ -10,7 +10,6 @@ use lib.ListN.{get_or, set, length, length-set, get_or-map}
 use lib.Seq.{get_or-set_same, get_or-set_other, ext_get_or}
 use borrow.Author.Tests.{ne_eqb}
 use Rattle.bitml.specs.Ledger.{Commitment, ill, commit}
-use Rattle.refusals.specs.Numbers.{told}
 use Rattle.bitml.proofs.Lists.{at_set}
 use Rattle.tables.specs.Entries.{first_of}
 use Rattle.tables.proofs.Runs.{first_of-length, first_of_get_d}
@@ -133,7 +132,7 @@ stores_same {P} {Q} {i} {vs} e s = subst (λ n. Stores P i vs n Q) e s
 pub stored-book : (l : Counts) {P : Pages} {i : ℕ} {vs : List ℕ} {n : ℕ} {Q : Pages} → Stores P i vs n Q → book l Q ≡ with_secrets (book l P) (Q states) (Q values)
 stored-book l {P} {Q = Q} s = λ k.
     record {
-      answer = told l.answer;
+      answer = l.answer;
       time = l.time;
       made = l.made;
       sets = l.sets;

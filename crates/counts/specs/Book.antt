@@ -1,6 +1,6 @@
 -- The ledger with what its cells hold, as one record. Assumes nothing.
-use Rattle.std.specs.Prelude.{ℕ, List, Some}
-use Rattle.refusals.specs.Numbers.{told}
+use Rattle.std.specs.Prelude.{ℕ, List}
+use Rattle.refusals.specs.Numbers.{number}
 use Rattle.refusals.specs.declared.Refusal.{Refusal}
 use Rattle.pages.specs.Pages.{Pages, nodes, balances, set_numbers, lives, definitions, secret_counts, states, values, payments, signatures}
 use Rattle.counts.specs.declared.Counts.{Counts}
@@ -28,7 +28,7 @@ pub record Book : Type 0 where
 abbrev pub book : Counts → Pages → Book
 book l P =
     record {
-      answer = told l.answer;
+      answer = l.answer;
       time = l.time;
       made = l.made;
       sets = l.sets;
@@ -47,4 +47,4 @@ book l P =
 
 -- The same ledger, with the refusal of an event
 abbrev pub refused_by : Counts → Refusal → Counts
-refused_by l r = record { answer = Some r; time = l.time; made = l.made; sets = l.sets; taken = l.taken }
+refused_by l r = record { answer = number r; time = l.time; made = l.made; sets = l.sets; taken = l.taken }

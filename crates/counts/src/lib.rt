@@ -25,10 +25,11 @@ use sheets::{Index, Table};
 use tables::{Kind, Sheet, mask_of};
 
 // The cells are lent to each event and not held: the ledger holds them, and hands them on with these counts.
-// The answer to the last event is what refused it, if anything did. Made counts the contracts, dead ones too, and taken the deposits.
+// The answer to the last event is 0 where that was taken, else the number that refused it; an event is handed any, and looks at none. Made counts
+// the contracts, dead ones too, and taken the deposits.
 #[derive(Clone, Copy)]
 pub struct Counts {
-    pub answer: Option<Refusal>,
+    pub answer: usize,
     pub time: usize,
     pub made: usize,
     pub sets: usize,
@@ -53,7 +54,7 @@ impl Counts {
         put_set(cells, 0, 0, vs.len());
         store(0, vs, cells);
         Counts {
-            answer: None,
+            answer: 0,
             time: 0,
             made: 1,
             sets: 1,
@@ -72,7 +73,7 @@ impl Counts {
             return self.refused(Refusal::LedgerLimit);
         }
         Counts {
-            answer: None,
+            answer: 0,
             time: self.time + d,
             ..self
         }
@@ -93,10 +94,7 @@ impl Counts {
             return self.refused(Refusal::Signature);
         }
         put_signed(cells, c, b, signed + mask_of(p));
-        Counts {
-            answer: None,
-            ..self
-        }
+        Counts { answer: 0, ..self }
     }
 
     // Secret j of set i is told.
@@ -113,10 +111,7 @@ impl Counts {
             return self.refused(Refusal::Secret);
         }
         put_state(cells, at, 2);
-        Counts {
-            answer: None,
-            ..self
-        }
+        Counts { answer: 0, ..self }
     }
 
     // Branch b of contract c is fired.
@@ -176,7 +171,7 @@ impl Counts {
         ensures { result ≡ refused_by self refusal }
     {
         Counts {
-            answer: Some(refusal),
+            answer: refusal.number(),
             ..self
         }
     }
@@ -205,10 +200,7 @@ impl Counts {
         let paid = paid_to(cells, p) + balance_of(cells, c);
         bury(cells, c);
         put_paid(cells, p, paid);
-        Counts {
-            answer: None,
-            ..self
-        }
+        Counts { answer: 0, ..self }
     }
 
     // Branch b of contract c, entry q, splits the balance.
@@ -225,10 +217,7 @@ impl Counts {
         let v = balance_of(cells, c);
         let set = set_of(cells, c);
         bury(cells, c);
-        let taken = Counts {
-            answer: None,
-            ..self
-        };
+        let taken = Counts { answer: 0, ..self };
         taken.make_parts(index, q, v, set, cells)
     }
 
@@ -291,7 +280,7 @@ impl Counts {
         bury(cells, c);
         put_contract(cells, self.made, branch.arg, v, set);
         Counts {
-            answer: None,
+            answer: 0,
             made: self.made + 1,
             ..self
         }
@@ -329,7 +318,7 @@ impl Counts {
         put_contract(cells, self.made, definition.root, v + more, self.sets);
         store(self.sets, vs, cells);
         Counts {
-            answer: None,
+            answer: 0,
             time: self.time,
             made: self.made + 1,
             sets: self.sets + 1,

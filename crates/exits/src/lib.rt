@@ -21,9 +21,9 @@ use tables::{Kind, Sheet};
 
 // A branch, by its number in its node, and the rank by it.
 #[derive(Clone, Copy)]
-struct Choice {
-    branch: usize,
-    rank: usize,
+pub struct Choice {
+    pub branch: usize,
+    pub rank: usize,
 }
 
 // No `Result`: both are answers of document 01, and neither is an error.

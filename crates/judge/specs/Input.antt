@@ -1,4 +1,4 @@
--- What is known of standard input once it is read. Nothing is known of its bytes: they are the caller's.
+-- What is known of an input once it is read. Of standard input nothing is known beforehand: its bytes are the caller's.
 use Rattle.std.specs.Prelude.{Option, ℕ, ◌≤◌, ◌<◌, List, length, take}
 use Rattle.std.specs.Io.KnownBytes.{Consumes, IsAtEnd}
 

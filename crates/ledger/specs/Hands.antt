@@ -36,7 +36,7 @@ pub record Hands (t : List ℕ) (l : Ledger) (e : Event) (r : Ledger) : Type 0 w
 
 -- "At stipulation": the counts, and every cell
 pub record Begun (t : List ℕ) (vs : List (Option ℕ)) (c : Counts) (C : List ℕ) : Type 0 where
-  pub answer : (book c (pages_in C)).answer ≡ 0
+  pub answer : c.answer ≡ 0
   pub plain : view (people t) (book c (pages_in C)) ≡ stipulated (sheet_in t) vs
   pub told : pages_in C ≡ laid_out (stipulated (sheet_in t) vs)
   pub fit : Fit t (book c (pages_in C))

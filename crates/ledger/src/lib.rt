@@ -19,11 +19,13 @@ use sheets::{Index, Table};
 use tables::Sheet;
 
 // A value, none where it is `x`, and the position after its field. A refusal cannot come: the whole request was read before.
+#[tactic(auto, unfolding(crate::specs::Values::value_of, crate::specs::Values::behind))]
 fn one_value(s: &[u8], at: usize) -> (Option<usize>, usize)
     ensures { Read s.now at result }
 {
     match value_at(Reader { request: s, at }) {
-        Ok(read) => read,
+        Ok((Some(v), next)) => (Some(v), next),
+        Ok((None, next)) => (None, next),
         Err(e) => (None, e.at),
     }
 }

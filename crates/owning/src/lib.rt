@@ -61,10 +61,11 @@ pub fn bar(table: Table, p: usize, n: usize, b: usize) -> Option<Cause>
     requires p_bound { (p < people table.cells.now) × (n < length (held table.cells.now).nodes) × (b < length (held table.cells.now).branches) }
     ensures { told result ≡ bar (sheet_in table.entry.cells.now) p n (branch_of (held table.entry.cells.now) b) }
 {
-    let branch = table.branch(b);
-    if branch.signers != 0 && branch.signers != mask_of(p) {
+    let signers = table.signers(b);
+    if signers != 0 && signers != mask_of(p) {
         return Some(Cause::Signer);
     }
+    let branch = table.branch(b);
     match branch.kind {
         Kind::Withdraw | Kind::Split => None,
         Kind::Reveal => {

@@ -19,7 +19,6 @@ use Rattle.counts.specs.Book.{Book, book}
 use Rattle.counts.specs.View.{view}
 use Rattle.counts.specs.Fit.{Fit}
 use Rattle.counts.specs.Does.{Does}
-use Rattle.refusals.specs.Numbers.{told}
 use Rattle.texts.specs.Text.{line_text}
 use Rattle.texts.specs.Wrote.{Wrote}
 use Rattle.replies.specs.Answer.{least_text}
@@ -82,7 +81,7 @@ module _ (s t : List ℕ) (to first : ℕ) (text₀ : List ℕ) where
       pub plays-nearer : length s - d.next < length s - at
       plays-nearer = omega (arith, within)
 
-      pub plays-more : (c' : Counts) (zs' : List ℕ) (r : Turn) (v : List ℕ) → Does t (book c (pages_in zs)) (event_in s x) (book c' (pages_in zs')) → length zs' ≡ cells_long → Noted s t d u (told c'.answer) v r
+      pub plays-more : (c' : Counts) (zs' : List ℕ) (r : Turn) (v : List ℕ) → Does t (book c (pages_in zs)) (event_in s x) (book c' (pages_in zs')) → length zs' ≡ cells_long → Noted s t d u c'.answer v r
           → Plays s t to first text₀ l₀ c' zs' r d.next v
       plays-more c' zs' r v does long b =
           let y = event_at s (people t) at in

@@ -15,7 +15,6 @@ ghost use Rattle.counts.specs.Book.{book};
 ghost use Rattle.counts.specs.View.{view};
 ghost use Rattle.counts.specs.Fit.{Fit};
 ghost use Rattle.ledger.specs.Values.{values_of};
-ghost use Rattle.refusals.specs.Numbers.{told};
 ghost use Rattle.ledger.specs.Hands.{Holds, Hands};
 ghost use Rattle.texts.specs.Text.{line_text, lines_text};
 ghost use Rattle.texts.specs.Wrote.{Wrote};
@@ -67,12 +66,12 @@ fn due_at(s: &[u8], at: usize, table: Table, line: usize, end: usize) -> Turn
 // The answer to the event that was due is written, and the next one is due.
 fn note(d: Turn, l: Counts, s: &[u8], table: Table, text: &mut [u8]) -> Turn
     requires { (d.next ≤ length s.now) × (events_at s.now (people table.cells.now) d.next ≡ Good) × (d.line ≤ 99999) × (d.end + 80 ≤ length text.old) }
-    ensures { Noted s.now table.entry.cells.now d text.old (told l.answer) text.new result }
+    ensures { Noted s.now table.entry.cells.now d text.old l.answer text.new result }
 {
     let answer = l.answer;
     let end = match answer {
-        None => put_taken(text, d.end),
-        Some(refusal) => put_refused(text, d.end, refusal.number(), d.line, 0),
+        0 => put_taken(text, d.end),
+        number => put_refused(text, d.end, number, d.line, 0),
     };
     due_at(s, d.next, table, d.line + 1, end)
 }

@@ -31,8 +31,9 @@ fn put_causes(index: Index, p: usize, n: usize, text: &mut [u8], at: usize) -> u
     ensures { Wrote text.old at (lines_text (branch_lines 0 (causes (sheet_in index.entry.table.cells.now) p n))) text.new result }
 {
     let mut end = at;
-    for (i, &b) in index.branches_of(n).iter().enumerate() {
-        let cause = bar(index.table, p, n, b).unwrap_or(Cause::Contract);
+    let branches = index.branches_of(n);
+    for i in 0..branches.len() {
+        let cause = bar(index.table, p, n, branches[i]).unwrap_or(Cause::Contract);
         end = put_branch(text, end, i, cause.number());
     }
     end

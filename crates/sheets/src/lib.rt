@@ -4,7 +4,7 @@
 
 ghost use Rattle.std.specs.Prelude.{◌≡◌, ◌≤◌, ◌<◌, length};
 ghost use Rattle.tables.specs.Entries.{held, people, most_nodes};
-ghost use Rattle.tables.specs.SheetOf.{listed_at, branch_numbers, part_numbers, deposit_of, owner_of, def_entry_at};
+ghost use Rattle.tables.specs.SheetOf.{listed_at, branch_entry_at, branch_numbers, part_numbers, deposit_of, owner_of, def_entry_at};
 ghost use Rattle.sheets.specs.Once.{once};
 ghost use Rattle.sheets.specs.Ready.{Ready, Indexed, namers, Named, index_long, namers_long};
 
@@ -133,6 +133,14 @@ impl<'a> Table<'a> {
         }
     }
 
+    // The signers alone: most branches that are looked at are told apart by them.
+    pub fn signers(self, b: usize) -> usize
+        requires b_in_bounds { b < length (held self.cells.now).branches }
+        ensures { result ≡ (branch_entry_at (held self.entry.cells.now) b).signers }
+    {
+        self.cells[Sheet::BRANCHES_AT + Sheet::BRANCH_WIDE * b + 1]
+    }
+
     pub fn definition(self, d: usize) -> Definition
         requires d_in_bounds { d < length (held self.cells.now).defs }
         ensures { DefIs (held self.entry.cells.now) d result }
@@ -170,9 +178,10 @@ impl<'a> Table<'a> {
     }
 
     // The table with its index, for which the caller lends the room.
-    pub fn index(self, room: &'a mut [usize]) -> Index<'a>
+    pub fn index<'r>(self, room: &'r mut [usize]) -> Index<'a, 'r>
         requires index_long_in_bounds { index_long ≤ length room.old }
-        ensures { result.table.cells.now ≡ self.entry.cells.now }
+        ensures table { result.table.cells.now ≡ self.entry.cells.now }
+        ensures places { length result.places.now ≡ length room.old }
     {
         bucket(
             self.cells,
@@ -197,9 +206,10 @@ impl<'a> Table<'a> {
     }
 
     // The table with an index of its branches by argument.
-    pub fn namers(self, room: &'a mut [usize]) -> Namers<'a>
+    pub fn namers<'r>(self, room: &'r mut [usize]) -> Namers<'a, 'r>
         requires namers_long_in_bounds { namers_long ≤ length room.old }
-        ensures { result.table.cells.now ≡ self.entry.cells.now }
+        ensures table { result.table.cells.now ≡ self.entry.cells.now }
+        ensures places { length result.places.now ≡ length room.old }
     {
         bucket(
             self.cells,
@@ -218,15 +228,15 @@ impl<'a> Table<'a> {
 
 // A table with the branches of each node and the parts of each branch.
 #[derive(Clone, Copy)]
-pub struct Index<'a> {
+pub struct Index<'a, 'r> {
     pub table: Table<'a>,
-    pub places: &'a [usize],
+    pub places: &'r [usize],
     pub ghost indexed: { Indexed (held table.cells.now) places.now },
 }
 
-impl<'a> Index<'a> {
+impl<'a, 'r> Index<'a, 'r> {
     // The branches of node n, by number.
-    pub fn branches_of(self, n: usize) -> &'a [usize]
+    pub fn branches_of(self, n: usize) -> &'r [usize]
         requires n_in_bounds { n < length (held self.table.cells.now).nodes }
         ensures { result.now ≡ branch_numbers (held self.entry.table.cells.now) n }
     {
@@ -234,7 +244,7 @@ impl<'a> Index<'a> {
     }
 
     // The nodes that are parts of branch b.
-    pub fn parts_of(self, b: usize) -> &'a [usize]
+    pub fn parts_of(self, b: usize) -> &'r [usize]
         requires b_in_bounds { b < length (held self.table.cells.now).branches }
         ensures { result.now ≡ part_numbers (held self.entry.table.cells.now) b }
     {
@@ -245,15 +255,15 @@ impl<'a> Index<'a> {
 
 // A table with its branches by argument.
 #[derive(Clone, Copy)]
-pub struct Namers<'a> {
+pub struct Namers<'a, 'r> {
     pub table: Table<'a>,
-    pub places: &'a [usize],
+    pub places: &'r [usize],
     pub ghost named: { Named (held table.cells.now) places.now },
 }
 
-impl<'a> Namers<'a> {
+impl<'a, 'r> Namers<'a, 'r> {
     // The branches that have the argument a.
-    pub fn of(self, a: usize) -> &'a [usize]
+    pub fn of(self, a: usize) -> &'r [usize]
         requires a_lt_most_nodes { a < most_nodes }
         ensures { result.now ≡ namers (held self.entry.table.cells.now) a }
     {

@@ -94,8 +94,9 @@ pub fn make_all_for(table: Table, rows: &mut [usize], text: &mut [u8]) -> Reply
     let mut marks = [0; Sheet::NODES];
     reach(index, &mut marks);
     clear(text);
+    let people = table.people();
     // what `make` fills is cleared there
-    clear_past(rows, PLACES * table.people());
+    clear_past(rows, PLACES * people);
     answered(verdicts_for(index, rows, text, &marks))
 }
 

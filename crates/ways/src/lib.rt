@@ -103,8 +103,9 @@ pub fn toward(index: Index, dist: &[usize; Sheet::NODES], n: usize) -> Turn
     ensures { (g : ℕ) → Distances (sheet_in index.entry.table.cells.now) g dist.now → Turned (sheet_in index.entry.table.cells.now) g dist.now n result }
 {
     let k = dist[n] - 1;
-    for (branch, &b) in index.branches_of(n).iter().enumerate() {
-        if let Some(node) = node_toward(index, dist, b, k) {
+    let branches = index.branches_of(n);
+    for branch in 0..branches.len() {
+        if let Some(node) = node_toward(index, dist, branches[branch], k) {
             return Turn { branch, node };
         }
     }

@@ -17,7 +17,7 @@ overflow_add-first c = omega (arith, c.def_total-first.ensures, c.args.table.rea
 
 pub play-e-requires : goal.play-e-requires
 play-e-requires c = let p = c.requires in
-    (refl, p.s_len_bound.0, p.play_promise.inside, omega (arith, c.def_total-first.ensures, c.args.table.ready.promises.limits.defs), omega (arith, p.s_len_bound), rw c.index-index.ensures p.play_promise.events)
+    (refl, p.s_len_bound.0, p.play_promise.inside, omega (arith, c.def_total-first.ensures, c.args.table.ready.promises.limits.defs), omega (arith, p.s_len_bound), rw c.index-index.ensures.table p.play_promise.events)
 
 pub shape_of-rows : goal.shape_of-rows
 shape_of-rows c = cleared_long _ _ c.clear.ensures
@@ -26,4 +26,4 @@ pub returns : goal.returns
 returns c = let a = c.args in let t = a.table.cells.now in let K = people t in let E = held t in let s = a.s.now in
     gives_as c.answered.ensures
     (play_gives (sheet_in t) (values_of s a.from (def_entry_at E 0).secrets) (events_of s K a.to) _ _ (length a.rows.now) (length a.text.now) _ _ _ _ refl
-    (ap (λ n. n + 3) (c.def_total-first.ensures ∙ sym (defs-are K E))) c.clear-2.ensures c.clear.ensures (rw c.index-index.ensures at c.play-e.ensures))
+    (ap (λ n. n + 3) (c.def_total-first.ensures ∙ sym (defs-are K E))) c.clear-2.ensures c.clear.ensures (rw c.index-index.ensures.table at c.play-e.ensures))

@@ -21,15 +21,15 @@ bar-requires c =
     let h = c.requires.p_bound in
     let E = held c.args.index.table.cells.now in
     let i = c.loop-i.i in
-    let hi : i < branch_count E c.args.n = omega (arith, ap length c.branches_of-b-items.ensures) in
-    record { p_bound = (h.0, h.1, omega (arith, ap (λ bs. get_or bs i 0) c.branches_of-b-items.ensures, branch-small E c.args.n i hi)) }
+    let hi : i < branch_count E c.args.n = omega (arith, ap length c.branches_of-branches.ensures) in
+    record { p_bound = (h.0, h.1, omega (arith, ap (λ bs. get_or bs i 0) c.branches_of-branches.ensures, branch-small E c.args.n i hi)) }
 
 pub put_branch-end-requires : goal.put_branch-end-requires
 unfolding branch_count
 put_branch-end-requires c =
     let t = c.args.index.table in
     let h = c.requires.p_bound in
-    let hi : c.loop-i.i < branch_count (held t.cells.now) c.args.n = omega (arith, ap length c.branches_of-b-items.ensures) in
+    let hi : c.loop-i.i < branch_count (held t.cells.now) c.args.n = omega (arith, ap length c.branches_of-branches.ensures) in
     omega (arith, c.loop-i.invariant.0, c.loop-i.invariant.1, (t.ready.promises.node c.args.n h.1).few, h.2)
 
 pub loop-i-preserved : goal.loop-i-preserved
@@ -41,10 +41,10 @@ loop-i-preserved c =
     let l = c.loop-i in
     let w = c.put_branch-end.ensures in
     let s = sheet_in t.cells.now in
-    let hi : l.i < branch_count (held t.cells.now) a.n = omega (arith, ap length c.branches_of-b-items.ensures) in
+    let hi : l.i < branch_count (held t.cells.now) a.n = omega (arith, ap length c.branches_of-branches.ensures) in
     let hs : l.i < length (branches_at s a.n) = omega (arith, count_of (people t.cells.now) (held t.cells.now) a.n h.1) in
     let e : c.number.result ≡ cause s a.p a.n (branch_at s a.n l.i) =
-    c.number.ensures ∙ ap number c.unwrap_or-cause.ensures ∙ cause_is t.cells.now t.ready a.p a.n l.i _ c.bar.result h.1 hi c.requires.fact (ap (λ bs. get_or bs l.i 0) c.branches_of-b-items.ensures) c.bar.ensures in
+    c.number.ensures ∙ ap number c.unwrap_or-cause.ensures ∙ cause_is t.cells.now t.ready a.p a.n l.i _ c.bar.result h.1 hi c.requires.fact (ap (λ bs. get_or bs l.i 0) c.branches_of-branches.ensures) c.bar.ensures in
     (w.long ∙ l.invariant.0, omega (arith, l.invariant.1, branch-room _ _ w), causes-next s a.p a.n l.i hs e l.invariant.2 w)
 
 pub returns : goal.returns
@@ -53,4 +53,4 @@ returns c =
     let a = c.args in
     let t = a.index.table.cells.now in
     let l = c.loop-i in
-    causes-end (sheet_in t) a.p a.n l.i (omega (arith, ap length c.branches_of-b-items.ensures, count_of (people t) (held t) a.n c.requires.p_bound.1)) l.invariant.2
+    causes-end (sheet_in t) a.p a.n l.i (omega (arith, ap length c.branches_of-branches.ensures, count_of (people t) (held t) a.n c.requires.p_bound.1)) l.invariant.2

@@ -16,9 +16,9 @@ pub returns-in-Liquid : goal.returns-in-Liquid
 returns-in-Liquid c =
     let t = c.index-index.result.table in
     let w = wrote-liquid t.cells.now t.ready _ _ (sym c.in-Liquid.is ∙ c.make.ensures.value) c.put_liquid.ensures in
-    rw (← c.index-index.ensures) (gives_as c.answered.ensures (gives_long (why_gives _ _ _ _ _ _ _ _ c.clear.ensures c.clear-in-Liquid.ensures w) (search rules) refl))
+    rw (← c.index-index.ensures.table) (gives_as c.answered.ensures (gives_long (why_gives _ _ _ _ _ _ _ _ c.clear.ensures c.clear-in-Liquid.ensures w) (search rules) refl))
 
 pub returns-in-Frozen : goal.returns-in-Frozen
 returns-in-Frozen c =
     let e = told-frozen _ _ (sym c.in-Frozen.is ∙ c.make.ensures.value) in
-    rw (← c.index-index.ensures) (gives_as c.answered-in-Frozen.ensures (frozen_gives _ _ _ _ _ _ _ _ c.clear.ensures _ e c.make.ensures.rows_after c.put_reason.ensures))
+    rw (← c.index-index.ensures.table) (gives_as c.answered-in-Frozen.ensures (frozen_gives _ _ _ _ _ _ _ _ c.clear.ensures _ e c.make.ensures.rows_after c.put_reason.ensures))

@@ -28,7 +28,7 @@ returns-in-Ok c =
     let R = rows_of a.n a.rows.now in
     let s = sheet_in t.cells.now in
     let v = c.in-Ok.ensures in
-    rw (← c.index-index.ensures)
+    rw (← c.index-index.ensures.table)
     (gives_as c.answered.ensures
     (check-liquid s a.p (root-first t.cells.now t.ready) (length a.rows.now) (length a.text.now) _ _ c.clear.ensures R (check s a.p R) _ _ _ _ v.value v.rows_after c.put_liquid.ensures))
 
@@ -40,6 +40,6 @@ returns-in-Err c =
     let R = rows_of a.n a.rows.now in
     let s = sheet_in t.cells.now in
     let v = c.in-Err.ensures in
-    rw (← c.index-index.ensures)
+    rw (← c.index-index.ensures.table)
     (gives_as c.declined.ensures
-    (check-refused s a.p (root-first t.cells.now t.ready) (length a.rows.now) (length a.text.now) _ _ c.clear.ensures R (check s a.p R) _ _ _ (rw c.number.ensures v.value) v.rows_after (rw c.index-index.ensures (c.def_total.ensures ∙ sym (defs-are (people a.table.cells.now) (held a.table.cells.now))))))
+    (check-refused s a.p (root-first t.cells.now t.ready) (length a.rows.now) (length a.text.now) _ _ c.clear.ensures R (check s a.p R) _ _ _ (rw c.number.ensures v.value) v.rows_after (rw c.index-index.ensures.table (c.def_total.ensures ∙ sym (defs-are (people a.table.cells.now) (held a.table.cells.now))))))

@@ -17,6 +17,6 @@ pub returns : goal.returns
 unfolding sheet_of
 returns c =
     let v = c.verdicts_for.ensures in
-    let k = c.people.ensures ∙ ap people (sym c.index-index.ensures) in
-    rw (← c.index-index.ensures)
-    (gives_as c.answered.ensures (all_gives _ (made-few _ _ c.index-index.result.table.ready.promises) _ _ _ _ _ _ _ _ _ refl (rows-length (places_of_one * c.people.result) c.args.rows.now ∙ ap (λ i. places_of_one * i) k) c.clear_past.ensures v.rows_after c.clear.ensures v.wrote))
+    let k = c.people-people.ensures ∙ ap people (sym c.index-index.ensures.table) in
+    rw (← c.index-index.ensures.table)
+    (gives_as c.answered.ensures (all_gives _ (made-few _ _ c.index-index.result.table.ready.promises) _ _ _ _ _ _ _ _ _ refl (rows-length (places_of_one * c.people-people.result) c.args.rows.now ∙ ap (λ i. places_of_one * i) k) c.clear_past.ensures v.rows_after c.clear.ensures v.wrote))

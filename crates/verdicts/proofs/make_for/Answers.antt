@@ -10,4 +10,4 @@ reach-requires c = record { marks_len = no_marks }
 pub returns : goal.returns
 returns c =
     let v = c.verdict_for.ensures in
-    rw (← c.index-index.ensures) (gives_as c.answered.ensures (make_gives _ _ (root-first _ c.index-index.result.table.ready) _ _ _ _ c.clear.ensures _ _ v.rows_after v.wrote))
+    rw (← c.index-index.ensures.table) (gives_as c.answered.ensures (make_gives _ _ (root-first _ c.index-index.result.table.ready) _ _ _ _ c.clear.ensures _ _ v.rows_after v.wrote))

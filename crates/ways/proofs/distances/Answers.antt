@@ -42,7 +42,7 @@ loop-head-preserved c =
     let s = c.visit_before.new.search in
     let v = c.visit_before.ensures in
     let h : l.head < l.search.len = omega arith in
-    let e = c.namers-namers.ensures in
+    let e = c.namers-namers.ensures.table in
     let mk : Searched t c.args.target s = subst (λ g. Searched t g s) i.3 (subst (λ t. Searched t (get_or l.search.queue 0 0) s) e v.searched_2.0) in
     let g = v.further.marks c.args.target (omega (arith, i.4)) in (
       v.same ∙ i.0,

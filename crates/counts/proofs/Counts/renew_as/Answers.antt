@@ -4,7 +4,6 @@ use Prim.Native.Nat.{◌+◌, ◌<◌}
 use mathlib.Core.List.{map}
 use lib.ListN.{length, length-map}
 use Rattle.duties.specs.Duties.{handed}
-use Rattle.std.specs.Prelude.{None}
 use Rattle.tables.specs.Entries.{held}
 use Rattle.tables.specs.SheetOf.{def_entry_at}
 use Rattle.pages.specs.Pages.{pages_in, with_contract, with_set}
@@ -52,7 +51,7 @@ overflow_add-result-3 c = let a = c.args in let p = c.requires in let m = room_b
 pub returns : goal.returns
 returns c = let a = c.args in let p = c.requires in
     let l = a.self in
-    let r : Counts = record { answer = None; time = l.time; made = l.made + 1; sets = l.sets + 1; taken = l.taken + c.deposits-more.result } in
+    let r : Counts = record { answer = 0; time = l.time; made = l.made + 1; sets = l.sets + 1; taken = l.taken + c.deposits-more.result } in
     let e = c.put_contract.ensures ∙ ap (with_contract l.made c.definition-definition.result.root (c.balance_of-v.result + c.deposits-more.result) l.sets) (c.put_set.ensures ∙ ap (with_set l.sets c.branch-d.result.arg c.definition-definition.result.secrets) c.bury.ensures) in
     let s = subst (λ P. Stores P l.sets (map handed a.vs.now) (length (map handed a.vs.now)) (pages_in c.store.new.cells)) e (stores_same (sym (length-map a.vs.now handed)) c.store.ensures) in
     subst (λ x. Does a.table.cells.now (book a.self (pages_in a.cells.now)) (renewal a.c a.b (map handed a.vs.now)) x) (sym (stored-book r s))

@@ -4,7 +4,6 @@ use Rattle.counts.specs.Book.{book}
 use Rattle.counts.specs.declared.Counts.{Counts}
 use Rattle.counts.proofs.Making.{dying_fits}
 use Rattle.counts.proofs.Splitting.{s_numbers, s_full, s_taken_by, parts-length}
-use Rattle.std.specs.Prelude.{None}
 use Rattle.counts.proofs.Counts.split.Goals as goal
 
 pub parts_of-requires : goal.parts_of-requires
@@ -22,5 +21,5 @@ make_parts-requires c = let a = c.args in let p = c.requires in let k = s_number
 
 pub returns : goal.returns
 returns c = let a = c.args in let p = c.requires in
-    let r : Counts = record { answer = None; time = a.self.time; made = a.self.made; sets = a.self.sets; taken = a.self.taken } in
+    let r : Counts = record { answer = 0; time = a.self.time; made = a.self.made; sets = a.self.sets; taken = a.self.taken } in
     s_taken_by _ _ _ _ _ a.index.table.ready p.fit p.enabled p.q_value (omega (arith, parts-length _ _ c.parts_of.ensures)) (ap (book r) c.bury.ensures) c.balance_of-v.ensures c.set_of-set.ensures _ c.make_parts.ensures

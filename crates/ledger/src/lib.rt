@@ -23,6 +23,7 @@ use tables::Sheet;
 fn one_value(s: &[u8], at: usize) -> (Option<usize>, usize)
     ensures { Read s.now at result }
 {
+    // Case by case, as the definition goes: so each is proved by itself.
     match value_at(Reader { request: s, at }) {
         Ok((Some(v), next)) => (Some(v), next),
         Ok((None, next)) => (None, next),

@@ -32,6 +32,7 @@ fn put_causes(index: Index, p: usize, n: usize, text: &mut [u8], at: usize) -> u
 {
     let mut end = at;
     let branches = index.branches_of(n);
+    // Over places, since a line tells one.
     for i in 0..branches.len() {
         let cause = bar(index.table, p, n, branches[i]).unwrap_or(Cause::Contract);
         end = put_branch(text, end, i, cause.number());

@@ -104,6 +104,7 @@ pub fn toward(index: Index, dist: &[usize; Sheet::NODES], n: usize) -> Turn
 {
     let k = dist[n] - 1;
     let branches = index.branches_of(n);
+    // Over places, since a place is what is answered.
     for branch in 0..branches.len() {
         if let Some(node) = node_toward(index, dist, branches[branch], k) {
             return Turn { branch, node };

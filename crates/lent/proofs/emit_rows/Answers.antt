@@ -1,11 +1,11 @@
 use Rattle.std.proofs.Common.{◌∙◌, ◌≡◌, ap, arith, rules, length, replicate, ◌-◌}
 use Rattle.lent.specs.Structs.{no_row}
-use Rattle.lent.proofs.Structs.{struct_from, written, written_next, written_all}
+use Rattle.lent.proofs.Structs.{written, written_next, written_all}
 use Rattle.lent.proofs.emit_rows.Goals as goal
 
 pub loop-i-preserved : goal.loop-i-preserved
 loop-i-preserved c = let l = c.loop-i in let a = c.args in
-    rw (l.invariant, c.row_of.ensures, struct_from) (written_next a.numbers.now a.rows.now l.i (omega arith))
+    rw (l.invariant, c.row_in.ensures) (written_next a.numbers.now a.rows.now l.i (omega arith))
 
 pub returns : goal.returns
 returns c =

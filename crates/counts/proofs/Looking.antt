@@ -26,9 +26,6 @@ use Rattle.tables.specs.declared.Kind.{Kind}
 use Rattle.tables.specs.declared.Kind.TheVariants.{Withdraw, Split, Reveal, Renew}
 use Rattle.tables.specs.contracts.Kind.{the_type as the_kind}
 use denote.Enum.Bare.{sameb}
-use Rattle.refusals.specs.Numbers.{number}
-use Rattle.refusals.specs.declared.Refusal.{Refusal}
-use Rattle.refusals.specs.declared.Refusal.TheVariants.{TooLong, Missing, NotDue, OutOfRange, Repeated, Unknown, OverLimit, NoWeight, TooMany, SecondRow, MissingRow, NotOwn, RankTooLow, NoBranch, TooEarly, Signature, Secret, ValueCount, LedgerLimit, ShortText, OutOfOrder}
 use Rattle.sheets.specs.Ready.{Ready}
 use Rattle.duties.proofs.Payable.{payable}
 use Rattle.pages.specs.Pages.{cells_long}
@@ -202,30 +199,7 @@ module _ (t : List ℕ) (l : Book) where
 pub absent : (t : List ℕ) (l : Book) (c b : ℕ) → Fit t l → Finds t l.made l.node l.alive c b None → live (sheet_in t) (view (people t) l) c b ≡ false
 absent t l c b f x = by_cases (dec_le l.made c) (live_unknown t l c b) (λ h. live_absent t l f c b (omega arith) x)
 
--- what the code says of a refusal and of a kind
-pub number-some : (r : Refusal) → number r ≡ 0 → ⊥
-number-some TooLong e = omega arith
-number-some Missing e = omega arith
-number-some NotDue e = omega arith
-number-some OutOfRange e = omega arith
-number-some Repeated e = omega arith
-number-some Unknown e = omega arith
-number-some OverLimit e = omega arith
-number-some NoWeight e = omega arith
-number-some TooMany e = omega arith
-number-some SecondRow e = omega arith
-number-some MissingRow e = omega arith
-number-some NotOwn e = omega arith
-number-some RankTooLow e = omega arith
-number-some NoBranch e = omega arith
-number-some TooEarly e = omega arith
-number-some Signature e = omega arith
-number-some Secret e = omega arith
-number-some ValueCount e = omega arith
-number-some LedgerLimit e = omega arith
-number-some ShortText e = omega arith
-number-some OutOfOrder e = omega arith
-
+-- what the code says of a kind
 renews : (k : Kind) → sameb the_kind k Renew ≡ eqb (code k) 3
 renews Withdraw = refl
 renews Split = refl

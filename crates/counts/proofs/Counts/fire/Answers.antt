@@ -1,7 +1,8 @@
 use native.Mathlib.Omega.{arith}
 use mathlib.Core.Path.{sym, ap, ◌∙◌}
 use Rattle.tables.specs.Kinds.{code}
-use Rattle.counts.proofs.Looking.{absent, number-some, kind-renews, kind-other, place-in, entry-small}
+use Rattle.refusals.proofs.Numbers.{number-some}
+use Rattle.counts.proofs.Looking.{absent, kind-renews, kind-other, place-in, entry-small}
 use Rattle.counts.proofs.Firing.{fire_absent, fire-renewal, fire_late, enabled_by}
 use Rattle.counts.proofs.Counts.fire.Goals as goal
 

@@ -2,7 +2,8 @@ use native.Mathlib.Omega.{arith}
 use mathlib.Core.Path.{sym, ◌∙◌}
 use mathlib.Core.List.{map}
 use Rattle.duties.specs.Duties.{handed}
-use Rattle.counts.proofs.Looking.{absent, number-some, place-in, entry-small, kind-renews, kind-other}
+use Rattle.refusals.proofs.Numbers.{number-some}
+use Rattle.counts.proofs.Looking.{absent, place-in, entry-small, kind-renews, kind-other}
 use borrow.Author.Tests.{not-true, not-false}
 use Rattle.counts.proofs.Firing.{enabled_by}
 use Rattle.counts.proofs.Renewing.{renew_absent, renew-other, renew_late}

@@ -16,6 +16,7 @@ use Rattle.fields.specs.Field.{spelled, number_at, word_at}
 use Rattle.requests.specs.Part.{most_value, value_at}
 use Rattle.requests.specs.Commitment.{Commitment}
 use Rattle.requests.specs.Commitment as commitment
+use Rattle.requests.specs.Commitment.{committed as read}
 use Rattle.duties.specs.Duties.{committed, meant, handed}
 use Rattle.std.specs.Prelude as code
 use Rattle.ledger.specs.Values.{value_of, behind, values_of, Read}
@@ -30,6 +31,16 @@ module _ (s : List ℕ) (at : ℕ) where
       cond_cases (λ c. c ≡ commitment.Number v e → v ≤ most_value) (eqb w (spelled "x")) (commitment.Ill f) _ (λ b h. let z : ◌≡◌ {A = ℕ} 0 1 = cc in absurd (omega arith)) λ b.
       when_read-cases (λ c. c ≡ commitment.Number v e → v ≤ most_value) commitment.Bad (number_at s at most_value) commitment.Number (λ m p h. let z : ◌≡◌ {A = ℕ} 0 1 = cc in absurd (omega arith)) λ u q i h.
       let j : u ≡ v = cc in omega (arith, number-max s at most_value u q i)
+
+  -- what `filled_more` asks, of an answer of `value_at`: a value, or a refusal
+  pub read-value : (v : code.Option ℕ) (e : ℕ) → read v e ≡ value_at s at → Read s at (v, e)
+  unfolding value_of behind
+  read-value code.None e h = record { is = ap value_of h; next = ap behind h }
+  read-value (code.Some v) e h = record { is = ap value_of h; next = ap behind h }
+
+  pub read-bad : (n p : ℕ) → commitment.Bad n p ≡ value_at s at → Read s at (code.None, p)
+  unfolding value_of behind
+  read-bad n p h = record { is = ap value_of h; next = ap behind h }
 
 -- ---- all
 

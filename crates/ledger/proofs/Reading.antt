@@ -32,7 +32,7 @@ module _ (s : List ℕ) (at : ℕ) where
       when_read-cases (λ c. c ≡ commitment.Number v e → v ≤ most_value) commitment.Bad (number_at s at most_value) commitment.Number (λ m p h. let z : ◌≡◌ {A = ℕ} 0 1 = cc in absurd (omega arith)) λ u q i h.
       let j : u ≡ v = cc in omega (arith, number-max s at most_value u q i)
 
-  -- what `filled_more` asks, of an answer of `value_at`: a value, or a refusal
+  -- what `filled_more` asks of a value, none for `x`, and of a refusal; the code's own proof finds both alone, so they stand for callers
   pub read-value : (v : code.Option ℕ) (e : ℕ) → read v e ≡ value_at s at → Read s at (v, e)
   unfolding value_of behind
   read-value code.None e h = record { is = ap value_of h; next = ap behind h }
